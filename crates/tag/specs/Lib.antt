@@ -1,0 +1,2 @@
+pub mod RandomBits
+pub mod TagChoice
