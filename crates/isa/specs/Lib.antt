@@ -1,0 +1,6 @@
+pub mod Answers
+pub mod Decoding
+pub mod Encoding
+pub mod RoundTrip
+pub mod Tests
+pub mod Words
