@@ -1,6 +1,6 @@
 -- Laws of fields: shifts and masks are `/` and `%`, and a number is the sum of its fields. Assumes nothing.
 use mathlib.Core.Path.{_≡_, ap, ap₂, sym, _∙_}
-use Prim.Native.Nat.{ℕ, _+_, _-_, _*_, _/_, _%_, _^_, _≤_, _<_}
+use Prim.Native.Nat.{ℕ, _+_, _-_, _*_, _/_, _%_, _^_, _<_}
 use native.Mathlib.Omega.{arith}
 use native.Mathlib.Nat.{one-mul, add-comm, add-mul, mul-assoc, mod-lt, mod-eq-of-lt}
 use lib.Bits.{bitAnd, bitOr, and-mask, or-shifted}

@@ -4,7 +4,7 @@ use Prim.Native.Nat.{ℕ, zero, suc, _+_, _*_, _/_, _%_, _^_, _≤_, _<_}
 use mathlib.Core.List.{List, [], _∷_}
 use native.Mathlib.Nat.{pow-suc}
 use native.Mathlib.Omega.{arith}
-use lib.ListN.{length, take, getD}
+use lib.ListN.{length, getD}
 use Rattle.bits.specs.LittleEndian.{lowBytes, fromBytes, bytesOf, wordOf}
 
 pub low-bytes-length : (n v : ℕ) → length (lowBytes n v) ≡ n

@@ -1,11 +1,11 @@
 -- An amount of bytes and the field that counts its granules, both ways. Assumes nothing.
-use Prim.Native.Nat.{ℕ, _+_, _-_, _*_, _/_, _%_, _^_, _≤_, _<_}
+use Prim.Native.Nat.{ℕ, _+_, _-_, _*_, _%_, _^_, _≤_, _<_}
 use mathlib.Core.Path.{_≡_, refl}
 use mathlib.Core.Bool.{Bool, true, false, cond, _&&_, _||_}
 use native.Mathlib.Omega.{arith}
 use lib.Dec.{ltb, leb, eqb}
 use borrow.Author.Tests.{eq-eqb, lt-ltb, le-ltb, le-leb, lt-leb, ltb-true, ltb-false, leb-true, eqb-true}
-use Rattle.isa.specs.Words.{count}
+use Rattle.isa.specs.Words.{granuleCount}
 use Rattle.isa.specs.Decoding.{signedAmount}
 use Rattle.isa.specs.Encoding.{amountIn}
 use Rattle.isa.proofs.Fits.{and-left, and-right}
@@ -21,14 +21,14 @@ signed-cases half imm P f g = go (ltb imm half) refl
     go true e = f (ltb-true imm half e)
     go false e = g (ltb-false imm half e)
 
-pub unsigned-count : (imm : ℕ) → imm < 64 → count 6 (imm * 16) ≡ imm
+pub unsigned-count : (imm : ℕ) → imm < 64 → granuleCount 6 (imm * 16) ≡ imm
 unsigned-count imm h = omega arith
 
-pub signed-count-9 : (imm : ℕ) → imm < 512 → count 9 (signedAmount 256 imm) ≡ imm
-signed-count-9 imm h = signed-cases 256 imm (λ (a : ℕ). count 9 a ≡ imm) (λ l. omega arith) (λ l. omega arith)
+pub signed-count-9 : (imm : ℕ) → imm < 512 → granuleCount 9 (signedAmount 256 imm) ≡ imm
+signed-count-9 imm h = signed-cases 256 imm (λ (a : ℕ). granuleCount 9 a ≡ imm) (λ l. omega arith) (λ l. omega arith)
 
-pub signed-count-7 : (imm : ℕ) → imm < 128 → count 7 (signedAmount 64 imm) ≡ imm
-signed-count-7 imm h = signed-cases 64 imm (λ (a : ℕ). count 7 a ≡ imm) (λ l. omega arith) (λ l. omega arith)
+pub signed-count-7 : (imm : ℕ) → imm < 128 → granuleCount 7 (signedAmount 64 imm) ≡ imm
+signed-count-7 imm h = signed-cases 64 imm (λ (a : ℕ). granuleCount 7 a ≡ imm) (λ l. omega arith) (λ l. omega arith)
 
 -- the amount of a field is in range
 
@@ -77,18 +77,18 @@ signed-high : (half imm amount : ℕ) → half ≤ imm → imm < 2 * half → ha
     → signedAmount half imm ≡ amount
 signed-high half imm amount l m k e = simp (le-ltb imm half l) (omega arith)
 
-pub unsigned-back : (amount : ℕ) → amountIn 0 1008 amount ≡ true → count 6 amount * 16 ≡ amount
+pub unsigned-back : (amount : ℕ) → amountIn 0 1008 amount ≡ true → granuleCount 6 amount * 16 ≡ amount
 unsigned-back amount h =
-    in-cases 0 1008 amount h (count 6 amount * 16 ≡ amount) (λ z l. omega arith) (λ z l m. omega arith)
+    in-cases 0 1008 amount h (granuleCount 6 amount * 16 ≡ amount) (λ z l. omega arith) (λ z l m. omega arith)
 
-pub signed-back-9 : (amount : ℕ) → amountIn 4096 4080 amount ≡ true → signedAmount 256 (count 9 amount) ≡ amount
+pub signed-back-9 : (amount : ℕ) → amountIn 4096 4080 amount ≡ true → signedAmount 256 (granuleCount 9 amount) ≡ amount
 signed-back-9 amount h =
-    in-cases 4096 4080 amount h (signedAmount 256 (count 9 amount) ≡ amount)
-    (λ z l. signed-low 256 (count 9 amount) amount (omega arith) (omega arith))
-    (λ z l m. signed-high 256 (count 9 amount) amount (omega arith) (omega arith) (omega arith) (omega arith))
+    in-cases 4096 4080 amount h (signedAmount 256 (granuleCount 9 amount) ≡ amount)
+    (λ z l. signed-low 256 (granuleCount 9 amount) amount (omega arith) (omega arith))
+    (λ z l m. signed-high 256 (granuleCount 9 amount) amount (omega arith) (omega arith) (omega arith) (omega arith))
 
-pub signed-back-7 : (amount : ℕ) → amountIn 1024 1008 amount ≡ true → signedAmount 64 (count 7 amount) ≡ amount
+pub signed-back-7 : (amount : ℕ) → amountIn 1024 1008 amount ≡ true → signedAmount 64 (granuleCount 7 amount) ≡ amount
 signed-back-7 amount h =
-    in-cases 1024 1008 amount h (signedAmount 64 (count 7 amount) ≡ amount)
-    (λ z l. signed-low 64 (count 7 amount) amount (omega arith) (omega arith))
-    (λ z l m. signed-high 64 (count 7 amount) amount (omega arith) (omega arith) (omega arith) (omega arith))
+    in-cases 1024 1008 amount h (signedAmount 64 (granuleCount 7 amount) ≡ amount)
+    (λ z l. signed-low 64 (granuleCount 7 amount) amount (omega arith) (omega arith))
+    (λ z l m. signed-high 64 (granuleCount 7 amount) amount (omega arith) (omega arith) (omega arith) (omega arith))

@@ -1,6 +1,6 @@
 -- The decoder's tests find the form of `decodeOf`: a word is that of a form exactly if its bits outside the fields are the
 -- form's fixed bits, and bits 31:22 leave few forms. Assumes nothing.
-use Prim.Native.Nat.{ℕ, zero, suc, _+_, _*_, _/_, _%_, _^_, _<_}
+use Prim.Native.Nat.{ℕ, zero, suc, _+_, _*_, _^_, _<_}
 use mathlib.Core.Path.{_≡_, refl, ap, sym, _∙_}
 use mathlib.Core.Bool.{Bool, true, false, cond, _&&_, and-false, false≢true}
 use native.Mathlib.Omega.{arith}
@@ -16,12 +16,11 @@ use Rattle.isa.specs.declared.TwoSourceOp.{TwoSourceOp}
 use Rattle.isa.specs.declared.TwoSourceOp.the-variants.{Subp, Subps, Irg, Gmi}
 use Rattle.isa.specs.declared.TagStoreOp.{TagStoreOp}
 use Rattle.isa.specs.declared.TagStoreOp.the-variants.{Stg, Stzg, St2g, Stz2g}
-use Rattle.isa.specs.declared.Form.the-variants.{AddSub, TwoSource, Ldg, TagStore, Stgp}
 use Rattle.isa.specs.declared.Decoded.{Decoded}
 use Rattle.isa.specs.declared.Decoded.the-variants.{Is, Undefined}
-use Rattle.isa.specs.Words.{addSubBits, twoSourceBits, ldgBits, tagStoreBits, modeBits, stgpBits, count, wordOf}
+use Rattle.isa.specs.Words.{addSubBits, twoSourceBits, ldgBits, tagStoreBits, modeBits, stgpBits, granuleCount, wordOf}
 use Rattle.isa.specs.Decoding.{signedAmount, addSubAt, twoSourceAt, ldgAt, tagStoreAt, stgpAt, formsAt, formOf, decodeOf}
-use Rattle.isa.specs.Tests.{clearTest, setTest, addSubTest, twoSourceTest, subpsTest, ldgTest, modeTest}
+use Rattle.isa.specs.DecodingBranches.{ifBit21, addSubBranch, twoSourceBranch, subpsBranch, ldgBranch, modeBranch}
 use Rattle.isa.proofs.Amounts.{unsigned-count, signed-count-9, signed-count-7}
 use Rattle.isa.proofs.Fits.{and-left, and-right}
 use Rattle.isa.proofs.Table.{addSubTop, twoSourceTop, opcode, tagStoreTop, stgpTop, add-sub-parts, two-source-parts, tag-store-parts, mode-small, stgp-parts}
@@ -109,7 +108,7 @@ module _ (w : ℕ) (h : w < 2 ^ 32) where
   two-source-row op = three-tests (two-source-sum op (omega arith) (omega arith))
 
   tag-access-row : (fixed top mode : ℕ) → fixed ≡ top * 2 ^ 22 + 2 ^ 21 → mode < 4
-      → eqb (fixed + count 9 (signedAmount 256 (bitsAt w 12 9)) * 2 ^ 12 + mode * 2 ^ 10 + bitsAt w 5 5 * 2 ^ 5 + bitsAt w 0 5) w
+      → eqb (fixed + granuleCount 9 (signedAmount 256 (bitsAt w 12 9)) * 2 ^ 12 + mode * 2 ^ 10 + bitsAt w 5 5 * 2 ^ 5 + bitsAt w 0 5) w
       ≡ (eqb (bitsAt w 22 10) top && (eqb (bitsAt w 21 1) 1 && eqb (bitsAt w 10 2) mode))
   unfolding bits
   tag-access-row fixed top mode p k =
@@ -126,7 +125,7 @@ module _ (w : ℕ) (h : w < 2 ^ 32) where
   ldg-row : eqb (wordOf (ldgAt w)) w
       ≡ (eqb (bitsAt w 22 10) (tagStoreTop Stzg) && (eqb (bitsAt w 21 1) 1 && eqb (bitsAt w 10 2) 0))
   ldg-row =
-      let zero-mode : wordOf (ldgAt w) ≡ ldgBits + count 9 (signedAmount 256 (bitsAt w 12 9)) * 2 ^ 12 + 0 * 2 ^ 10 + bitsAt w 5 5 * 2 ^ 5 + bitsAt w 0 5 =
+      let zero-mode : wordOf (ldgAt w) ≡ ldgBits + granuleCount 9 (signedAmount 256 (bitsAt w 12 9)) * 2 ^ 12 + 0 * 2 ^ 10 + bitsAt w 5 5 * 2 ^ 5 + bitsAt w 0 5 =
       omega arith in
       ap (λ (k : ℕ). eqb k w) zero-mode ∙ tag-access-row ldgBits (tagStoreTop Stzg) 0 refl (omega arith)
 
@@ -188,12 +187,12 @@ by-rows w h =
 guard-two-source : (t : Bool) (w : ℕ)
     → cond (t && eqb (bitsAt w 10 6) 0) (Is (twoSourceAt Subp w))
     (cond (t && eqb (bitsAt w 10 6) 4) (Is (twoSourceAt Irg w)) (cond (t && eqb (bitsAt w 10 6) 5) (Is (twoSourceAt Gmi w)) Undefined))
-    ≡ cond t (twoSourceTest (bitsAt w 10 6) w) Undefined
+    ≡ cond t (twoSourceBranch (bitsAt w 10 6) w) Undefined
 guard-two-source true w = refl
 guard-two-source false w = refl
 
 guard-subps : (t : Bool) (w : ℕ)
-    → cond (t && eqb (bitsAt w 10 6) 0) (Is (twoSourceAt Subps w)) Undefined ≡ cond t (subpsTest (bitsAt w 10 6) w) Undefined
+    → cond (t && eqb (bitsAt w 10 6) 0) (Is (twoSourceAt Subps w)) Undefined ≡ cond t (subpsBranch (bitsAt w 10 6) w) Undefined
 guard-subps true w = refl
 guard-subps false w = refl
 
@@ -205,30 +204,30 @@ module _ (t : Bool) (op : TagStoreOp) (w : ℕ) where
       (cond (t && eqb m 3) (Is (tagStoreAt op Pre w)) (cond (t && eqb m 2) (Is (tagStoreAt op Offset w)) Undefined))
 
 guard-stores : (t : Bool) (op : TagStoreOp) (w m : ℕ)
-    → cond (t && eqb m 0) (ldgTest op w) (guarded t op w m) ≡ cond t (modeTest m op w) Undefined
+    → cond (t && eqb m 0) (ldgBranch op w) (guarded t op w m) ≡ cond t (modeBranch m op w) Undefined
 guard-stores true op w m = refl
 guard-stores false op w m = refl
 
 -- an operation with no LDG: mode 0 finds nothing
-guard-no-ldg : (t : Bool) (op : TagStoreOp) (w m : ℕ) → ldgTest op w ≡ Undefined
-    → guarded t op w m ≡ cond t (modeTest m op w) Undefined
+guard-no-ldg : (t : Bool) (op : TagStoreOp) (w m : ℕ) → ldgBranch op w ≡ Undefined
+    → guarded t op w m ≡ cond t (modeBranch m op w) Undefined
 guard-no-ldg true op w zero e = sym e
 guard-no-ldg false op w zero e = refl
 guard-no-ldg t op w (suc m) e =
-    ap (λ (b : Bool). cond b (ldgTest op w) (guarded t op w (suc m))) (sym (ap (λ (b : Bool). t && b) (eqb·suc-zero m) ∙ and-false t))
+    ap (λ (b : Bool). cond b (ldgBranch op w) (guarded t op w (suc m))) (sym (ap (λ (b : Bool). t && b) (eqb·suc-zero m) ∙ and-false t))
     ∙ guard-stores t op w (suc m)
 
-at-add-sub : (op : AddSubOp) (w : ℕ) → rows (addSubTop op) w ≡ addSubTest op w
+at-add-sub : (op : AddSubOp) (w : ℕ) → rows (addSubTop op) w ≡ addSubBranch op w
 at-add-sub Addg w = refl
 at-add-sub Subg w = refl
 
-at-two-source : (w : ℕ) → rows (twoSourceTop Subp) w ≡ clearTest w (twoSourceTest (bitsAt w 10 6) w)
+at-two-source : (w : ℕ) → rows (twoSourceTop Subp) w ≡ ifBit21 w 0 (twoSourceBranch (bitsAt w 10 6) w)
 at-two-source w = guard-two-source (eqb (bitsAt w 21 1) 0) w
 
-at-subps : (w : ℕ) → rows (twoSourceTop Subps) w ≡ clearTest w (subpsTest (bitsAt w 10 6) w)
+at-subps : (w : ℕ) → rows (twoSourceTop Subps) w ≡ ifBit21 w 0 (subpsBranch (bitsAt w 10 6) w)
 at-subps w = guard-subps (eqb (bitsAt w 21 1) 0) w
 
-at-tag-access : (op : TagStoreOp) (w : ℕ) → rows (tagStoreTop op) w ≡ setTest w (modeTest (bitsAt w 10 2) op w)
+at-tag-access : (op : TagStoreOp) (w : ℕ) → rows (tagStoreTop op) w ≡ ifBit21 w 1 (modeBranch (bitsAt w 10 2) op w)
 at-tag-access Stg w = guard-no-ldg (eqb (bitsAt w 21 1) 1) Stg w (bitsAt w 10 2) refl
 at-tag-access Stzg w = guard-stores (eqb (bitsAt w 21 1) 1) Stzg w (bitsAt w 10 2)
 at-tag-access St2g w = guard-no-ldg (eqb (bitsAt w 21 1) 1) St2g w (bitsAt w 10 2) refl
@@ -243,17 +242,17 @@ module _ (w : ℕ) (h : w < 2 ^ 32) where
   by-top : (top : ℕ) → bitsAt w 22 10 ≡ top → decodeOf w ≡ rows top w
   by-top top e = by-rows w h ∙ ap (λ (k : ℕ). rows k w) e
 
-  pub decode-add-sub : (op : AddSubOp) → bitsAt w 22 10 ≡ addSubTop op → decodeOf w ≡ addSubTest op w
+  pub decode-add-sub : (op : AddSubOp) → bitsAt w 22 10 ≡ addSubTop op → decodeOf w ≡ addSubBranch op w
   decode-add-sub op e = by-top (addSubTop op) e ∙ at-add-sub op w
 
-  pub decode-two-source : bitsAt w 22 10 ≡ twoSourceTop Subp → decodeOf w ≡ clearTest w (twoSourceTest (bitsAt w 10 6) w)
+  pub decode-two-source : bitsAt w 22 10 ≡ twoSourceTop Subp → decodeOf w ≡ ifBit21 w 0 (twoSourceBranch (bitsAt w 10 6) w)
   decode-two-source e = by-top (twoSourceTop Subp) e ∙ at-two-source w
 
-  pub decode-subps : bitsAt w 22 10 ≡ twoSourceTop Subps → decodeOf w ≡ clearTest w (subpsTest (bitsAt w 10 6) w)
+  pub decode-subps : bitsAt w 22 10 ≡ twoSourceTop Subps → decodeOf w ≡ ifBit21 w 0 (subpsBranch (bitsAt w 10 6) w)
   decode-subps e = by-top (twoSourceTop Subps) e ∙ at-subps w
 
   pub decode-tag-access : (op : TagStoreOp) → bitsAt w 22 10 ≡ tagStoreTop op
-      → decodeOf w ≡ setTest w (modeTest (bitsAt w 10 2) op w)
+      → decodeOf w ≡ ifBit21 w 1 (modeBranch (bitsAt w 10 2) op w)
   decode-tag-access op e = by-top (tagStoreTop op) e ∙ at-tag-access op w
 
   pub decode-stgp : (mode : Mode) → bitsAt w 22 10 ≡ stgpTop mode → decodeOf w ≡ Is (stgpAt mode w)

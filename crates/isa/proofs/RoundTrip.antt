@@ -2,10 +2,10 @@
 -- Assumes nothing.
 use Prim.Native.Nat.{ℕ, _+_, _*_, _^_, _<_}
 use mathlib.Core.Path.{_≡_, refl, sym, ap, _∙_}
-use mathlib.Core.Bool.{Bool, true, false, cond, _&&_}
+use mathlib.Core.Bool.{Bool, true, false, cond}
 use mathlib.Core.List.{List, [], _∷_}
 use native.Mathlib.Omega.{arith}
-use lib.Dec.{leb, eqb}
+use lib.Dec.{eqb}
 use borrow.Author.Tests.{le-leb, leb-true, eqb-true}
 use Rattle.bits.specs.Fields.{bitsAt}
 use Rattle.bits.proofs.Fields.{field-lt}
@@ -20,13 +20,12 @@ use Rattle.isa.specs.declared.TagStoreOp.the-variants.{Stg, Stzg, St2g, 
 use Rattle.isa.specs.declared.Form.{Form}
 use Rattle.isa.specs.declared.Form.the-variants.{AddSub, TwoSource, Ldg, TagStore, Stgp}
 use Rattle.isa.specs.declared.Decoded.{Decoded}
-use Rattle.isa.specs.declared.Decoded.the-variants.{Is, Undefined}
+use Rattle.isa.specs.declared.Decoded.the-variants.{Is}
 use Rattle.isa.specs.declared.Encoded.the-variants.{Word, Field}
-use Rattle.isa.specs.Words.{addSubBits, modeBits, count, wordOf}
-use Rattle.isa.specs.Decoding.{signedAmount, addSubAt, twoSourceAt, ldgAt, tagStoreAt, stgpAt, formsAt, formOf, decodeOf}
+use Rattle.isa.specs.Words.{modeBits, granuleCount, wordOf}
+use Rattle.isa.specs.Decoding.{addSubAt, twoSourceAt, ldgAt, tagStoreAt, stgpAt, formsAt, formOf, decodeOf}
 use Rattle.isa.specs.Encoding.{register, amountIn, fieldsFit, encodeOf}
 use Rattle.isa.specs.RoundTrip.{RoundTrip}
-use Rattle.isa.specs.Tests.{clearTest, setTest, twoSourceTest, subpsTest, modeTest}
 use Rattle.isa.proofs.Amounts.{unsigned-in, signed-in, unsigned-back, signed-back-9, signed-back-7}
 use Rattle.isa.proofs.Decoding.{decode-add-sub, decode-two-source, decode-subps, decode-tag-access, decode-stgp}
 use Rattle.isa.proofs.Fits.{two-registers, three-fields}
@@ -79,7 +78,7 @@ decodes (AddSub op d n amount offset) h =
     let b = three-fields d n offset 15 (amountIn 0 1008 amount) h in
     let w = wordOf (AddSub op d n amount offset) in
     let p = add-sub-parts op in
-    let q = add-sub-fields w (addSubTop op) (count 6 amount) offset n d (omega arith) (p .1) (omega arith) (omega arith) (omega arith) (omega arith) in
+    let q = add-sub-fields w (addSubTop op) (granuleCount 6 amount) offset n d (omega arith) (p .1) (omega arith) (omega arith) (omega arith) (omega arith) in
     decode-add-sub w (narrow (AddSub op d n amount offset) h) op (q .0) ∙ simp (q .2, q .5, q .4, q .1, q .3, unsigned-back amount (b .3))
 decodes (TwoSource op d n m) h =
     let b = two-registers d n (register m) h in
@@ -91,19 +90,19 @@ decodes (TwoSource op d n m) h =
 decodes (Ldg t n amount) h =
     let b = two-registers t n (amountIn 4096 4080 amount) h in
     let w = wordOf (Ldg t n amount) in
-    let q = tag-access-fields w (tagStoreTop Stzg) (count 9 amount) 0 n t (omega arith) (omega arith) (omega arith) (omega arith) (omega arith) (omega arith) in
+    let q = tag-access-fields w (tagStoreTop Stzg) (granuleCount 9 amount) 0 n t (omega arith) (omega arith) (omega arith) (omega arith) (omega arith) (omega arith) in
     decode-tag-access w (narrow (Ldg t n amount) h) Stzg (q .0) ∙ simp (q .1, q .3, q .5, q .4, q .2, signed-back-9 amount (b .2))
 decodes (TagStore op mode t n amount) h =
     let b = two-registers t n (amountIn 4096 4080 amount) h in
     let w = wordOf (TagStore op mode t n amount) in
     let p = tag-store-parts op in
-    let q = tag-access-fields w (tagStoreTop op) (count 9 amount) (modeBits mode) n t (omega arith) (p .1) (omega arith) (mode-small mode) (omega arith) (omega arith) in
+    let q = tag-access-fields w (tagStoreTop op) (granuleCount 9 amount) (modeBits mode) n t (omega arith) (p .1) (omega arith) (mode-small mode) (omega arith) (omega arith) in
     tag-store-found op mode w (narrow (TagStore op mode t n amount) h) (q .0) (q .1) (q .3) ∙ simp (q .5, q .4, q .2, signed-back-9 amount (b .2))
 decodes (Stgp mode t t2 n amount) h =
     let b = three-fields t t2 n 31 (amountIn 1024 1008 amount) h in
     let w = wordOf (Stgp mode t t2 n amount) in
     let p = stgp-parts mode in
-    let q = stgp-fields w (stgpTop mode) (count 7 amount) t2 n t (omega arith) (p .1) (omega arith) (omega arith) (omega arith) (omega arith) in
+    let q = stgp-fields w (stgpTop mode) (granuleCount 7 amount) t2 n t (omega arith) (p .1) (omega arith) (omega arith) (omega arith) (omega arith) in
     decode-stgp w (narrow (Stgp mode t t2 n amount) h) mode (q .0) ∙ simp (q .4, q .3, q .2, q .1, signed-back-7 amount (b .3))
 
 -- the other way: what is found among forms whose fields are in range

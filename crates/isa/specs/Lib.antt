@@ -2,5 +2,5 @@ pub mod Answers
 pub mod Decoding
 pub mod Encoding
 pub mod RoundTrip
-pub mod Tests
+pub mod DecodingBranches
 pub mod Words

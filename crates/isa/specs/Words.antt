@@ -45,13 +45,13 @@ stgpBits Pre = 0x69800000
 stgpBits Offset = 0x69000000
 
 -- the granules that an amount of bytes counts, in a field of so many bits
-abbrev pub count : ℕ → ℕ → ℕ
-count width amount = bitsAt amount 4 width
+abbrev pub granuleCount : ℕ → ℕ → ℕ
+granuleCount width amount = bitsAt amount 4 width
 
 -- the word of a form: its fixed bits and its fields, each in its place
 abbrev pub wordOf : Form → ℕ
-wordOf (AddSub op d n amount offset) = addSubBits op + count 6 amount * 2 ^ 16 + offset * 2 ^ 10 + n * 2 ^ 5 + d
+wordOf (AddSub op d n amount offset) = addSubBits op + granuleCount 6 amount * 2 ^ 16 + offset * 2 ^ 10 + n * 2 ^ 5 + d
 wordOf (TwoSource op d n m) = twoSourceBits op + m * 2 ^ 16 + n * 2 ^ 5 + d
-wordOf (Ldg t n amount) = ldgBits + count 9 amount * 2 ^ 12 + n * 2 ^ 5 + t
-wordOf (TagStore op mode t n amount) = tagStoreBits op + count 9 amount * 2 ^ 12 + modeBits mode * 2 ^ 10 + n * 2 ^ 5 + t
-wordOf (Stgp mode t t2 n amount) = stgpBits mode + count 7 amount * 2 ^ 15 + t2 * 2 ^ 10 + n * 2 ^ 5 + t
+wordOf (Ldg t n amount) = ldgBits + granuleCount 9 amount * 2 ^ 12 + n * 2 ^ 5 + t
+wordOf (TagStore op mode t n amount) = tagStoreBits op + granuleCount 9 amount * 2 ^ 12 + modeBits mode * 2 ^ 10 + n * 2 ^ 5 + t
+wordOf (Stgp mode t t2 n amount) = stgpBits mode + granuleCount 7 amount * 2 ^ 15 + t2 * 2 ^ 10 + n * 2 ^ 5 + t

@@ -9,7 +9,7 @@ ghost use mathlib.Core.Path.{_≡_};
 ghost use Prim.Native.Nat.{_*_, _<_, _≤_};
 ghost use Rattle.bits.specs.Fields.{bitsAt};
 ghost use Rattle.isa.specs.Decoding.{signedAmount, twoSourceAt, tagStoreAt, stgpAt};
-ghost use Rattle.isa.specs.Tests.{addSubTest, twoSourceTest, subpsTest, ldgTest, modeTest, clearTest, setTest};
+ghost use Rattle.isa.specs.DecodingBranches.{addSubBranch, twoSourceBranch, subpsBranch, ldgBranch, modeBranch, ifBit21};
 
 // The bytes of a signed count of granules in a field of 2 * half values.
 fn signed(imm: u64, half: u64) -> u64
@@ -26,7 +26,7 @@ fn signed(imm: u64, half: u64) -> u64
 
 // ADDG, SUBG: bits 15:14 are zero.
 pub(crate) fn add_sub(op: AddSubOp, w: u64) -> Decoded
-    ensures { λ r. ⌜ r ≡ addSubTest op w ⌝ }
+    ensures { λ r. ⌜ r ≡ addSubBranch op w ⌝ }
 {
     if bits::field(w, 14, 2) == 0 {
         Decoded::Is(Form::AddSub {
@@ -54,7 +54,7 @@ fn registers(op: TwoSourceOp, w: u64) -> Decoded
 
 // SUBP, IRG, GMI: bit 21 is zero, and bits 15:10 tell them apart.
 pub(crate) fn two_source(w: u64) -> Decoded
-    ensures { λ r. ⌜ r ≡ clearTest w (twoSourceTest (bitsAt w 10 6) w) ⌝ }
+    ensures { λ r. ⌜ r ≡ ifBit21 w 0 (twoSourceBranch (bitsAt w 10 6) w) ⌝ }
 {
     if bits::field(w, 21, 1) == 0 {
         let opcode = bits::field(w, 10, 6);
@@ -71,7 +71,7 @@ pub(crate) fn two_source(w: u64) -> Decoded
 
 // SUBPS: bits 21 and 15:10 are zero.
 pub(crate) fn subps(w: u64) -> Decoded
-    ensures { λ r. ⌜ r ≡ clearTest w (subpsTest (bitsAt w 10 6) w) ⌝ }
+    ensures { λ r. ⌜ r ≡ ifBit21 w 0 (subpsBranch (bitsAt w 10 6) w) ⌝ }
 {
     if bits::field(w, 21, 1) == 0 {
         if bits::field(w, 10, 6) == 0 {
@@ -86,7 +86,7 @@ pub(crate) fn subps(w: u64) -> Decoded
 
 // LDG has the fixed bits of STZG.
 fn ldg(op: TagStoreOp, w: u64) -> Decoded
-    ensures { λ r. ⌜ r ≡ ldgTest op w ⌝ }
+    ensures { λ r. ⌜ r ≡ ldgBranch op w ⌝ }
 {
     match op {
         TagStoreOp::Stzg => Decoded::Is(Form::Ldg {
@@ -114,7 +114,7 @@ fn tag_store(op: TagStoreOp, mode: Mode, w: u64) -> Decoded
 
 // LDG and the tag stores: bit 21 is one, and bits 11:10 are the mode or, for LDG, zero.
 pub(crate) fn tag_access(op: TagStoreOp, w: u64) -> Decoded
-    ensures { λ r. ⌜ r ≡ setTest w (modeTest (bitsAt w 10 2) op w) ⌝ }
+    ensures { λ r. ⌜ r ≡ ifBit21 w 1 (modeBranch (bitsAt w 10 2) op w) ⌝ }
 {
     if bits::field(w, 21, 1) == 1 {
         let mode = bits::field(w, 10, 2);

@@ -6,11 +6,11 @@ use super::TagStoreOp;
 use super::TwoSourceOp;
 ghost use mathlib.Core.Path.{_≡_};
 ghost use mathlib.Core.Bool.{_&&_, true};
-ghost use Prim.Native.Nat.{_+_, _*_, _^_, _<_, _≤_};
+ghost use Prim.Native.Nat.{_+_, _*_, _^_, _<_};
 ghost use lib.Dec.{leb};
 ghost use Rattle.bits.specs.Fields.{bitsAt};
 ghost use Rattle.isa.specs.Encoding.{register, amountIn, fieldsFit};
-ghost use Rattle.isa.specs.Words.{addSubBits, twoSourceBits, tagStoreBits, modeBits, stgpBits, ldgBits, count, wordOf};
+ghost use Rattle.isa.specs.Words.{addSubBits, twoSourceBits, tagStoreBits, modeBits, stgpBits, granuleCount, wordOf};
 
 fn both(a: bool, b: bool) -> bool
     ensures { λ r. ⌜ r ≡ (a && b) ⌝ }
@@ -168,7 +168,7 @@ fn tag_access_word(fixed: u64, mode: u64, t: u64, n: u64, amount: u64) -> u32
     requires { ⌜ mode < 4 ⌝ }
     requires { ⌜ t < 32 ⌝ }
     requires { ⌜ n < 32 ⌝ }
-    ensures { λ r. ⌜ r ≡ fixed + count 9 amount * 2 ^ 12 + mode * 2 ^ 10 + n * 2 ^ 5 + t ⌝ }
+    ensures { λ r. ⌜ r ≡ fixed + granuleCount 9 amount * 2 ^ 12 + mode * 2 ^ 10 + n * 2 ^ 5 + t ⌝ }
 {
     let w = bits::put(fixed, 12, 9, bits::field(amount, 4, 9));
     with_registers(bits::put(w, 10, 2, mode), n, t)

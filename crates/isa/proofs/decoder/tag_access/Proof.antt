@@ -1,9 +1,9 @@
 -- `isa::decoder::tag_access` meets its contract. Assumes nothing.
 use borrow.Author.Needs.{needs}
 use Prim.Native.Nat.{ℕ}
-use mathlib.Core.Path.{sym, ap, _∙_}
 use borrow.Author.Tests.{eq-eqb, ne-eqb}
-use Rattle.isa.specs.Tests.{modeTest}
+use Rattle.isa.specs.DecodingBranches.{modeBranch}
+use Rattle.isa.proofs.Branches.{at-key, other-bit}
 use Rattle.isa.proofs.decoder.tag_access.Statement.{statement}
 use Rattle.isa.proofs.decoder.tag_access.Tie as tie
 
@@ -27,27 +27,23 @@ tag-store-requires-3 c κs = search needs
 
 returns : tie.Need-returns
 returns c =
-    c .ldg .ensures
-    ∙ ap (λ (k : ℕ). modeTest k (c .before .before .before .before .before .args .op) (c .before .before .before .before .before .args .w)) (sym (c .before .match .keys1) ∙ c .before .before .field2 .ensures)
-    ∙ sym (simp (eq-eqb _ _ (sym (c .before .before .before .before .field .ensures) ∙ c .before .before .before .if1 .taken)))
+    at-key (c .before .before .before .before .before .args .w) 1 (c .before .before .before .before .field .ensures) (λ (k : ℕ). modeBranch k (c .before .before .before .before .before .args .op) (c .before .before .before .before .before .args .w))
+    (c .before .before .before .if1 .taken) (c .before .before .field2 .ensures) (c .before .match .keys1) (c .ldg .ensures)
 
 returns-2 : tie.Need-returns-2
 returns-2 c =
-    c .tag-store .ensures
-    ∙ ap (λ (k : ℕ). modeTest k (c .before .before .before .before .before .args .op) (c .before .before .before .before .before .args .w)) (sym (c .before .match .keys2) ∙ c .before .before .field2 .ensures)
-    ∙ sym (simp (eq-eqb _ _ (sym (c .before .before .before .before .field .ensures) ∙ c .before .before .before .if1 .taken)))
+    at-key (c .before .before .before .before .before .args .w) 1 (c .before .before .before .before .field .ensures) (λ (k : ℕ). modeBranch k (c .before .before .before .before .before .args .op) (c .before .before .before .before .before .args .w))
+    (c .before .before .before .if1 .taken) (c .before .before .field2 .ensures) (c .before .match .keys2) (c .tag-store .ensures)
 
 returns-3 : tie.Need-returns-3
 returns-3 c =
-    c .tag-store2 .ensures
-    ∙ ap (λ (k : ℕ). modeTest k (c .before .before .before .before .before .args .op) (c .before .before .before .before .before .args .w)) (sym (c .before .match .keys3) ∙ c .before .before .field2 .ensures)
-    ∙ sym (simp (eq-eqb _ _ (sym (c .before .before .before .before .field .ensures) ∙ c .before .before .before .if1 .taken)))
+    at-key (c .before .before .before .before .before .args .w) 1 (c .before .before .before .before .field .ensures) (λ (k : ℕ). modeBranch k (c .before .before .before .before .before .args .op) (c .before .before .before .before .before .args .w))
+    (c .before .before .before .if1 .taken) (c .before .before .field2 .ensures) (c .before .match .keys3) (c .tag-store2 .ensures)
 
 returns-4 : tie.Need-returns-4
 returns-4 c =
-    c .tag-store3 .ensures
-    ∙ ap (λ (k : ℕ). modeTest k (c .before .before .before .before .before .args .op) (c .before .before .before .before .before .args .w)) (sym (c .before .match .keys4) ∙ c .before .before .field2 .ensures)
-    ∙ sym (simp (eq-eqb _ _ (sym (c .before .before .before .before .field .ensures) ∙ c .before .before .before .if1 .taken)))
+    at-key (c .before .before .before .before .before .args .w) 1 (c .before .before .before .before .field .ensures) (λ (k : ℕ). modeBranch k (c .before .before .before .before .before .args .op) (c .before .before .before .before .before .args .w))
+    (c .before .before .before .if1 .taken) (c .before .before .field2 .ensures) (c .before .match .keys4) (c .tag-store3 .ensures)
 
 returns-5 : tie.Need-returns-5
 returns-5 c =
@@ -55,7 +51,7 @@ returns-5 c =
     (simp (eq-eqb _ _ (c .before .before .if1 .taken), ne-eqb _ _ (c .match .rest .1), ne-eqb _ _ (c .match .rest .0 .1), ne-eqb _ _ (c .match .rest .0 .0 .1), ne-eqb _ _ (c .match .rest .0 .0 .0 .1)))
 
 returns-6 : tie.Need-returns-6
-returns-6 c = rw (← (c .before .field .ensures)) (simp (ne-eqb _ _ (c .if1 .left)))
+returns-6 c = other-bit (c .before .before .args .w) 1 (c .before .field .ensures) _ (c .if1 .left)
 
 pub tag-access-spec : {M : Type 1} → statement M
 tag-access-spec =

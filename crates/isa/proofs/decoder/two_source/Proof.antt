@@ -1,9 +1,9 @@
 -- `isa::decoder::two_source` meets its contract. Assumes nothing.
 use borrow.Author.Needs.{needs}
 use Prim.Native.Nat.{ℕ}
-use mathlib.Core.Path.{sym, ap, _∙_}
 use borrow.Author.Tests.{eq-eqb, ne-eqb}
-use Rattle.isa.specs.Tests.{twoSourceTest}
+use Rattle.isa.specs.DecodingBranches.{twoSourceBranch}
+use Rattle.isa.proofs.Branches.{at-key, other-bit}
 use Rattle.isa.proofs.decoder.two_source.Statement.{statement}
 use Rattle.isa.proofs.decoder.two_source.Tie as tie
 
@@ -24,21 +24,18 @@ registers-requires-3 c κs = search needs
 
 returns : tie.Need-returns
 returns c =
-    c .registers .ensures
-    ∙ ap (λ (k : ℕ). twoSourceTest k (c .before .before .before .before .before .args .w)) (sym (c .before .match .keys1) ∙ c .before .before .field2 .ensures)
-    ∙ sym (simp (eq-eqb _ _ (sym (c .before .before .before .before .field .ensures) ∙ c .before .before .before .if1 .taken)))
+    at-key (c .before .before .before .before .before .args .w) 0 (c .before .before .before .before .field .ensures) (λ (k : ℕ). twoSourceBranch k (c .before .before .before .before .before .args .w))
+    (c .before .before .before .if1 .taken) (c .before .before .field2 .ensures) (c .before .match .keys1) (c .registers .ensures)
 
 returns-2 : tie.Need-returns-2
 returns-2 c =
-    c .registers2 .ensures
-    ∙ ap (λ (k : ℕ). twoSourceTest k (c .before .before .before .before .before .args .w)) (sym (c .before .match .keys2) ∙ c .before .before .field2 .ensures)
-    ∙ sym (simp (eq-eqb _ _ (sym (c .before .before .before .before .field .ensures) ∙ c .before .before .before .if1 .taken)))
+    at-key (c .before .before .before .before .before .args .w) 0 (c .before .before .before .before .field .ensures) (λ (k : ℕ). twoSourceBranch k (c .before .before .before .before .before .args .w))
+    (c .before .before .before .if1 .taken) (c .before .before .field2 .ensures) (c .before .match .keys2) (c .registers2 .ensures)
 
 returns-3 : tie.Need-returns-3
 returns-3 c =
-    c .registers3 .ensures
-    ∙ ap (λ (k : ℕ). twoSourceTest k (c .before .before .before .before .before .args .w)) (sym (c .before .match .keys3) ∙ c .before .before .field2 .ensures)
-    ∙ sym (simp (eq-eqb _ _ (sym (c .before .before .before .before .field .ensures) ∙ c .before .before .before .if1 .taken)))
+    at-key (c .before .before .before .before .before .args .w) 0 (c .before .before .before .before .field .ensures) (λ (k : ℕ). twoSourceBranch k (c .before .before .before .before .before .args .w))
+    (c .before .before .before .if1 .taken) (c .before .before .field2 .ensures) (c .before .match .keys3) (c .registers3 .ensures)
 
 returns-4 : tie.Need-returns-4
 returns-4 c =
@@ -46,7 +43,7 @@ returns-4 c =
     (simp (eq-eqb _ _ (c .before .before .if1 .taken), ne-eqb _ _ (c .match .rest .1), ne-eqb _ _ (c .match .rest .0 .1), ne-eqb _ _ (c .match .rest .0 .0 .1)))
 
 returns-5 : tie.Need-returns-5
-returns-5 c = rw (← (c .before .field .ensures)) (simp (ne-eqb _ _ (c .if1 .left)))
+returns-5 c = other-bit (c .before .before .args .w) 0 (c .before .field .ensures) _ (c .if1 .left)
 
 pub two-source-spec : {M : Type 1} → statement M
 two-source-spec =

@@ -1,7 +1,6 @@
 -- `isa::encoder::fits` meets its contract. Assumes nothing.
 use borrow.Author.Needs.{needs}
 use mathlib.Core.Path.{sym, ap, _∙_}
-use mathlib.Core.Bool.{Bool, _&&_}
 use Rattle.isa.specs.Encoding.{fieldsFit}
 use Rattle.isa.proofs.encoder.fits.Statement.{statement}
 use Rattle.isa.proofs.encoder.fits.Tie as tie
