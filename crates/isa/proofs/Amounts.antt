@@ -1,9 +1,11 @@
 -- An amount of bytes and the field that counts its granules, both ways. Assumes nothing.
-use Prim.Native.Nat.{ℕ, _+_, _-_, _*_, _%_, _^_, _≤_, _<_}
-use mathlib.Core.Path.{_≡_, refl}
+use Prim.Native.Nat.{ℕ, _+_, _-_, _*_, _/_, _%_, _^_, _≤_, _<_}
+use mathlib.Core.Path.{_≡_, refl, ap, _∙_}
 use mathlib.Core.Bool.{Bool, true, false, cond, _&&_, _||_}
+use native.Mathlib.Nat.{add-mul, add-mul-mod-self-right, mod-eq-of-lt}
 use native.Mathlib.Omega.{arith}
 use lib.Dec.{ltb, leb, eqb}
+use lib.Pow.{pow-add, pow-pos}
 use borrow.Author.Tests.{eq-eqb, lt-ltb, le-ltb, le-leb, lt-leb, ltb-true, ltb-false, leb-true, eqb-true}
 use Rattle.isa.specs.Words.{granuleCount}
 use Rattle.isa.specs.Decoding.{signedAmount}
@@ -24,11 +26,27 @@ signed-cases half imm P f g = go (ltb imm half) refl
 pub unsigned-count : (imm : ℕ) → imm < 64 → granuleCount 6 (imm * 16) ≡ imm
 unsigned-count imm h = omega arith
 
-pub signed-count-9 : (imm : ℕ) → imm < 512 → granuleCount 9 (signedAmount 256 imm) ≡ imm
-signed-count-9 imm h = signed-cases 256 imm (λ (a : ℕ). granuleCount 9 a ≡ imm) (λ l. omega arith) (λ l. omega arith)
+-- 2 ^ 60 less a count is the count's complement in a field
+wrapped : (width n : ℕ) → width ≤ 60 → 0 < n → n ≤ 2 ^ width → (2 ^ 60 - n) % 2 ^ width ≡ 2 ^ width - n
+wrapped width n h pos le =
+    let q = 2 ^ (60 - width) in
+    let width-in-60 : 60 ≡ 60 - width + width = omega arith in
+    let whole : 2 ^ 60 ≡ q * 2 ^ width = ap (λ (k : ℕ). 2 ^ k) width-in-60 ∙ pow-add 2 (60 - width) width in
+    let one-less : q ≡ q - 1 + 1 = omega (arith, pow-pos (60 - width)) in
+    let apart : q * 2 ^ width ≡ (q - 1) * 2 ^ width + 1 * 2 ^ width =
+    ap (λ (k : ℕ). k * 2 ^ width) one-less ∙ add-mul (q - 1) 1 (2 ^ width) in
+    let sum : 2 ^ 60 - n ≡ 2 ^ width - n + (q - 1) * 2 ^ width = omega arith in
+    ap (λ (k : ℕ). k % 2 ^ width) sum
+    ∙ add-mul-mod-self-right (2 ^ width - n) (q - 1) (2 ^ width)
+    ∙ mod-eq-of-lt (omega arith)
 
-pub signed-count-7 : (imm : ℕ) → imm < 128 → granuleCount 7 (signedAmount 64 imm) ≡ imm
-signed-count-7 imm h = signed-cases 64 imm (λ (a : ℕ). granuleCount 7 a ≡ imm) (λ l. omega arith) (λ l. omega arith)
+-- a field of some width, half of whose values are not negative
+module _ (width half : ℕ) (sized : 2 ^ width ≡ 2 * half) (wide : width ≤ 60) (narrow : half ≤ 256) where
+  pub signed-count : (imm : ℕ) → imm < 2 * half → granuleCount width (signedAmount half imm) ≡ imm
+  signed-count imm h =
+      signed-cases half imm (λ (a : ℕ). granuleCount width a ≡ imm)
+      (λ l. ap (λ (k : ℕ). k % 2 ^ width) (omega arith) ∙ mod-eq-of-lt (omega arith))
+      (λ l. ap (λ (k : ℕ). k % 2 ^ width) (omega arith) ∙ wrapped width (2 * half - imm) wide (omega arith) (omega arith) ∙ omega arith)
 
 -- the amount of a field is in range
 
@@ -81,14 +99,16 @@ pub unsigned-back : (amount : ℕ) → amountIn 0 1008 amount ≡ true → granu
 unsigned-back amount h =
     in-cases 0 1008 amount h (granuleCount 6 amount * 16 ≡ amount) (λ z l. omega arith) (λ z l m. omega arith)
 
-pub signed-back-9 : (amount : ℕ) → amountIn 4096 4080 amount ≡ true → signedAmount 256 (granuleCount 9 amount) ≡ amount
-signed-back-9 amount h =
-    in-cases 4096 4080 amount h (signedAmount 256 (granuleCount 9 amount) ≡ amount)
-    (λ z l. signed-low 256 (granuleCount 9 amount) amount (omega arith) (omega arith))
-    (λ z l m. signed-high 256 (granuleCount 9 amount) amount (omega arith) (omega arith) (omega arith) (omega arith))
-
-pub signed-back-7 : (amount : ℕ) → amountIn 1024 1008 amount ≡ true → signedAmount 64 (granuleCount 7 amount) ≡ amount
-signed-back-7 amount h =
-    in-cases 1024 1008 amount h (signedAmount 64 (granuleCount 7 amount) ≡ amount)
-    (λ z l. signed-low 64 (granuleCount 7 amount) amount (omega arith) (omega arith))
-    (λ z l m. signed-high 64 (granuleCount 7 amount) amount (omega arith) (omega arith) (omega arith) (omega arith))
+module _ (width half : ℕ) (sized : 2 ^ width ≡ 2 * half) (wide : width ≤ 60) (narrow : half ≤ 256) where
+  pub signed-back : (low high amount : ℕ) → low ≡ half * 16 → high + 16 ≡ half * 16 → amountIn low high amount ≡ true
+      → signedAmount half (granuleCount width amount) ≡ amount
+  signed-back low high amount el eh h =
+      in-cases low high amount h (signedAmount half (granuleCount width amount) ≡ amount)
+      (λ z l.
+      let e : granuleCount width amount ≡ amount / 16 = mod-eq-of-lt (omega arith) in
+      signed-low half (granuleCount width amount) amount (omega arith) (omega arith))
+      (λ z l m.
+      let n = 2 ^ 60 - amount / 16 in
+      let e : granuleCount width amount ≡ 2 ^ width - n =
+      ap (λ (k : ℕ). k % 2 ^ width) (omega arith) ∙ wrapped width n wide (omega arith) (omega arith) in
+      signed-high half (granuleCount width amount) amount (omega arith) (omega arith) (omega arith) (omega arith))
