@@ -75,10 +75,10 @@ module _ (w : ℕ) (h : w < 2 ^ 32) where
         λ t z o. omega (arith, two-source-parts op),
       )
 
-  tag-access-sum : (fixed top mode : ℕ) → fixed ≡ top * 2 ^ 22 + 2 ^ 21 → mode < 4 → bits w 21 1 < 2 → bits w 10 2 < 4
+  memory-tags-sum : (fixed top mode : ℕ) → fixed ≡ top * 2 ^ 22 + 2 ^ 21 → mode < 4 → bits w 21 1 < 2 → bits w 10 2 < 4
       → (fixed + bits w 12 9 * 2 ^ 12 + mode * 2 ^ 10 + bits w 5 5 * 2 ^ 5 + bits w 0 5 ≡ w → (bits w 22 10 ≡ top) × (bits w 21 1 ≡ 1) × (bits w 10 2 ≡ mode))
       × (bits w 22 10 ≡ top → bits w 21 1 ≡ 1 → bits w 10 2 ≡ mode → fixed + bits w 12 9 * 2 ^ 12 + mode * 2 ^ 10 + bits w 5 5 * 2 ^ 5 + bits w 0 5 ≡ w)
-  tag-access-sum fixed top mode p k l m =
+  memory-tags-sum fixed top mode p k l m =
       let e : w ≡ bits w 22 10 * 2 ^ 22 + bits w 21 1 * 2 ^ 21 + bits w 12 9 * 2 ^ 12 + bits w 10 2 * 2 ^ 10 + bits w 5 5 * 2 ^ 5 + bits w 0 5 =
       omega (arith, lows-ends w 32 h, lows-up w 0 5, lows-up w 5 5, lows-up w 10 2, lows-up w 12 9, lows-up w 21 1, lows-up w 22 10) in (
         λ s. let t : bits w 22 10 ≡ top = omega arith in
@@ -107,19 +107,19 @@ module _ (w : ℕ) (h : w < 2 ^ 32) where
   unfolding bits
   two-source-row op = three-tests (two-source-sum op (omega arith) (omega arith))
 
-  tag-access-row : (fixed top mode : ℕ) → fixed ≡ top * 2 ^ 22 + 2 ^ 21 → mode < 4
+  memory-tags-row : (fixed top mode : ℕ) → fixed ≡ top * 2 ^ 22 + 2 ^ 21 → mode < 4
       → eqb (fixed + granuleCount 9 (signedAmount 256 (bitsAt w 12 9)) * 2 ^ 12 + mode * 2 ^ 10 + bitsAt w 5 5 * 2 ^ 5 + bitsAt w 0 5) w
       ≡ (eqb (bitsAt w 22 10) top && (eqb (bitsAt w 21 1) 1 && eqb (bitsAt w 10 2) mode))
   unfolding bits
-  tag-access-row fixed top mode p k =
+  memory-tags-row fixed top mode p k =
       ap (λ (i : ℕ). eqb (fixed + i * 2 ^ 12 + mode * 2 ^ 10 + bitsAt w 5 5 * 2 ^ 5 + bitsAt w 0 5) w)
       (signed-count 9 256 refl (omega arith) (omega arith) (bitsAt w 12 9) (omega arith))
-      ∙ three-tests (tag-access-sum fixed top mode p k (omega arith) (omega arith))
+      ∙ three-tests (memory-tags-sum fixed top mode p k (omega arith) (omega arith))
 
   tag-store-row : (op : TagStoreOp) (mode : Mode) → eqb (wordOf (tagStoreAt op mode w)) w
       ≡ (eqb (bitsAt w 22 10) (tagStoreTop op) && (eqb (bitsAt w 21 1) 1 && eqb (bitsAt w 10 2) (modeBits mode)))
   tag-store-row op mode =
-      tag-access-row (tagStoreBits op) (tagStoreTop op) (modeBits mode) (tag-store-parts op .0) (mode-small mode)
+      memory-tags-row (tagStoreBits op) (tagStoreTop op) (modeBits mode) (tag-store-parts op .0) (mode-small mode)
 
   -- LDG is a tag store of mode 0
   ldg-row : eqb (wordOf (ldgAt w)) w
@@ -127,7 +127,7 @@ module _ (w : ℕ) (h : w < 2 ^ 32) where
   ldg-row =
       let zero-mode : wordOf (ldgAt w) ≡ ldgBits + granuleCount 9 (signedAmount 256 (bitsAt w 12 9)) * 2 ^ 12 + 0 * 2 ^ 10 + bitsAt w 5 5 * 2 ^ 5 + bitsAt w 0 5 =
       omega arith in
-      ap (λ (k : ℕ). eqb k w) zero-mode ∙ tag-access-row ldgBits (tagStoreTop Stzg) 0 refl (omega arith)
+      ap (λ (k : ℕ). eqb k w) zero-mode ∙ memory-tags-row ldgBits (tagStoreTop Stzg) 0 refl (omega arith)
 
   stgp-row : (mode : Mode) → eqb (wordOf (stgpAt mode w)) w ≡ eqb (bitsAt w 22 10) (stgpTop mode)
   unfolding bits
@@ -227,11 +227,11 @@ at-two-source w = guard-two-source (eqb (bitsAt w 21 1) 0) w
 at-subps : (w : ℕ) → rows (twoSourceTop Subps) w ≡ ifBit21 w 0 (subpsBranch (bitsAt w 10 6) w)
 at-subps w = guard-subps (eqb (bitsAt w 21 1) 0) w
 
-at-tag-access : (op : TagStoreOp) (w : ℕ) → rows (tagStoreTop op) w ≡ ifBit21 w 1 (modeBranch (bitsAt w 10 2) op w)
-at-tag-access Stg w = guard-no-ldg (eqb (bitsAt w 21 1) 1) Stg w (bitsAt w 10 2) refl
-at-tag-access Stzg w = guard-stores (eqb (bitsAt w 21 1) 1) Stzg w (bitsAt w 10 2)
-at-tag-access St2g w = guard-no-ldg (eqb (bitsAt w 21 1) 1) St2g w (bitsAt w 10 2) refl
-at-tag-access Stz2g w = guard-no-ldg (eqb (bitsAt w 21 1) 1) Stz2g w (bitsAt w 10 2) refl
+at-memory-tags : (op : TagStoreOp) (w : ℕ) → rows (tagStoreTop op) w ≡ ifBit21 w 1 (modeBranch (bitsAt w 10 2) op w)
+at-memory-tags Stg w = guard-no-ldg (eqb (bitsAt w 21 1) 1) Stg w (bitsAt w 10 2) refl
+at-memory-tags Stzg w = guard-stores (eqb (bitsAt w 21 1) 1) Stzg w (bitsAt w 10 2)
+at-memory-tags St2g w = guard-no-ldg (eqb (bitsAt w 21 1) 1) St2g w (bitsAt w 10 2) refl
+at-memory-tags Stz2g w = guard-no-ldg (eqb (bitsAt w 21 1) 1) Stz2g w (bitsAt w 10 2) refl
 
 at-stgp : (mode : Mode) (w : ℕ) → rows (stgpTop mode) w ≡ Is (stgpAt mode w)
 at-stgp Post w = refl
@@ -251,9 +251,9 @@ module _ (w : ℕ) (h : w < 2 ^ 32) where
   pub decode-subps : bitsAt w 22 10 ≡ twoSourceTop Subps → decodeOf w ≡ ifBit21 w 0 (subpsBranch (bitsAt w 10 6) w)
   decode-subps e = by-top (twoSourceTop Subps) e ∙ at-subps w
 
-  pub decode-tag-access : (op : TagStoreOp) → bitsAt w 22 10 ≡ tagStoreTop op
+  pub decode-memory-tags : (op : TagStoreOp) → bitsAt w 22 10 ≡ tagStoreTop op
       → decodeOf w ≡ ifBit21 w 1 (modeBranch (bitsAt w 10 2) op w)
-  decode-tag-access op e = by-top (tagStoreTop op) e ∙ at-tag-access op w
+  decode-memory-tags op e = by-top (tagStoreTop op) e ∙ at-memory-tags op w
 
   pub decode-stgp : (mode : Mode) → bitsAt w 22 10 ≡ stgpTop mode → decodeOf w ≡ Is (stgpAt mode w)
   decode-stgp mode e = by-top (stgpTop mode) e ∙ at-stgp mode w

@@ -27,7 +27,7 @@ use Rattle.isa.specs.Decoding.{addSubAt, twoSourceAt, ldgAt, tagStoreAt,
 use Rattle.isa.specs.Encoding.{register, amountIn, fieldsFit, encodeOf}
 use Rattle.isa.specs.RoundTrip.{RoundTrip}
 use Rattle.isa.proofs.Amounts.{unsigned-in, signed-in, unsigned-back, signed-back}
-use Rattle.isa.proofs.Decoding.{decode-add-sub, decode-two-source, decode-subps, decode-tag-access, decode-stgp}
+use Rattle.isa.proofs.Decoding.{decode-add-sub, decode-two-source, decode-subps, decode-memory-tags, decode-stgp}
 use Rattle.isa.proofs.Fits.{two-registers, three-fields}
 use Rattle.isa.proofs.Table.{addSubTop, twoSourceTop, opcode, tagStoreTop, stgpTop, add-sub-parts, two-source-parts, tag-store-parts, mode-small, stgp-parts}
 
@@ -41,9 +41,9 @@ two-source-fields : (w t m o n d : ℕ) → w ≡ t * 2 ^ 22 + m * 2 ^ 16 + o * 
     → (bitsAt w 22 10 ≡ t) × (bitsAt w 21 1 ≡ 0) × (bitsAt w 16 5 ≡ m) × (bitsAt w 10 6 ≡ o) × (bitsAt w 5 5 ≡ n) × (bitsAt w 0 5 ≡ d)
 two-source-fields w t m o n d e ht hm ho hn hd = omega arith
 
-tag-access-fields : (w t i m n d : ℕ) → w ≡ t * 2 ^ 22 + 2 ^ 21 + i * 2 ^ 12 + m * 2 ^ 10 + n * 2 ^ 5 + d → t < 1024 → i < 512 → m < 4 → n < 32 → d < 32
+memory-tags-fields : (w t i m n d : ℕ) → w ≡ t * 2 ^ 22 + 2 ^ 21 + i * 2 ^ 12 + m * 2 ^ 10 + n * 2 ^ 5 + d → t < 1024 → i < 512 → m < 4 → n < 32 → d < 32
     → (bitsAt w 22 10 ≡ t) × (bitsAt w 21 1 ≡ 1) × (bitsAt w 12 9 ≡ i) × (bitsAt w 10 2 ≡ m) × (bitsAt w 5 5 ≡ n) × (bitsAt w 0 5 ≡ d)
-tag-access-fields w t i m n d e ht hi hm hn hd = omega arith
+memory-tags-fields w t i m n d e ht hi hm hn hd = omega arith
 
 stgp-fields : (w t i m n d : ℕ) → w ≡ t * 2 ^ 22 + i * 2 ^ 15 + m * 2 ^ 10 + n * 2 ^ 5 + d → t < 1024 → i < 128 → m < 32 → n < 32 → d < 32
     → (bitsAt w 22 10 ≡ t) × (bitsAt w 15 7 ≡ i) × (bitsAt w 10 5 ≡ m) × (bitsAt w 5 5 ≡ n) × (bitsAt w 0 5 ≡ d)
@@ -69,9 +69,9 @@ two-source-found Gmi w h t z o = decode-two-source w h t ∙ simp (z, o)
 
 tag-store-found : (op : TagStoreOp) (mode : Mode) (w : ℕ) → w < 2 ^ 32 → bitsAt w 22 10 ≡ tagStoreTop op → bitsAt w 21 1 ≡ 1 → bitsAt w 10 2 ≡ modeBits mode
     → decodeOf w ≡ Is (tagStoreAt op mode w)
-tag-store-found op Post w h t z m = decode-tag-access w h op t ∙ simp (z, m)
-tag-store-found op Pre w h t z m = decode-tag-access w h op t ∙ simp (z, m)
-tag-store-found op Offset w h t z m = decode-tag-access w h op t ∙ simp (z, m)
+tag-store-found op Post w h t z m = decode-memory-tags w h op t ∙ simp (z, m)
+tag-store-found op Pre w h t z m = decode-memory-tags w h op t ∙ simp (z, m)
+tag-store-found op Offset w h t z m = decode-memory-tags w h op t ∙ simp (z, m)
 
 decodes : (f : Form) → fieldsFit f ≡ true → decodeOf (wordOf f) ≡ Is f
 decodes (AddSub op d n amount offset) h =
@@ -90,13 +90,13 @@ decodes (TwoSource op d n m) h =
 decodes (Ldg t n amount) h =
     let b = two-registers t n (amountIn 4096 4080 amount) h in
     let w = wordOf (Ldg t n amount) in
-    let q = tag-access-fields w (tagStoreTop Stzg) (granuleCount 9 amount) 0 n t (omega arith) (omega arith) (omega arith) (omega arith) (omega arith) (omega arith) in
-    decode-tag-access w (narrow (Ldg t n amount) h) Stzg (q .0) ∙ simp (q .1, q .3, q .5, q .4, q .2, signed-back 9 256 refl (omega arith) (omega arith) 4096 4080 amount refl refl (b .2))
+    let q = memory-tags-fields w (tagStoreTop Stzg) (granuleCount 9 amount) 0 n t (omega arith) (omega arith) (omega arith) (omega arith) (omega arith) (omega arith) in
+    decode-memory-tags w (narrow (Ldg t n amount) h) Stzg (q .0) ∙ simp (q .1, q .3, q .5, q .4, q .2, signed-back 9 256 refl (omega arith) (omega arith) 4096 4080 amount refl refl (b .2))
 decodes (TagStore op mode t n amount) h =
     let b = two-registers t n (amountIn 4096 4080 amount) h in
     let w = wordOf (TagStore op mode t n amount) in
     let p = tag-store-parts op in
-    let q = tag-access-fields w (tagStoreTop op) (granuleCount 9 amount) (modeBits mode) n t (omega arith) (p .1) (omega arith) (mode-small mode) (omega arith) (omega arith) in
+    let q = memory-tags-fields w (tagStoreTop op) (granuleCount 9 amount) (modeBits mode) n t (omega arith) (p .1) (omega arith) (mode-small mode) (omega arith) (omega arith) in
     tag-store-found op mode w (narrow (TagStore op mode t n amount) h) (q .0) (q .1) (q .3) ∙ simp (q .5, q .4, q .2, signed-back 9 256 refl (omega arith) (omega arith) 4096 4080 amount refl refl (b .2))
 decodes (Stgp mode t t2 n amount) h =
     let b = three-fields t t2 n 31 (amountIn 1024 1008 amount) h in

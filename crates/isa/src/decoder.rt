@@ -113,7 +113,7 @@ fn tag_store(op: TagStoreOp, mode: Mode, w: u64) -> Decoded
 }
 
 // LDG and the tag stores: bit 21 is one, and bits 11:10 are the mode or, for LDG, zero.
-pub(crate) fn tag_access(op: TagStoreOp, w: u64) -> Decoded
+pub(crate) fn memory_tags(op: TagStoreOp, w: u64) -> Decoded
     ensures { λ r. ⌜ r ≡ ifBit21 w 1 (modeBranch (bitsAt w 10 2) op w) ⌝ }
 {
     if bits::field(w, 21, 1) == 1 {

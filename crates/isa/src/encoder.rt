@@ -162,7 +162,7 @@ fn two_source_word(op: TwoSourceOp, d: u64, n: u64, m: u64) -> u32
 }
 
 // LDG and the tag stores; the mode of LDG is 0.
-fn tag_access_word(fixed: u64, mode: u64, t: u64, n: u64, amount: u64) -> u32
+fn memory_tags_word(fixed: u64, mode: u64, t: u64, n: u64, amount: u64) -> u32
     requires { ⌜ fixed < 2 ^ 32 ⌝ }
     requires { ⌜ bitsAt fixed 0 21 ≡ 0 ⌝ }
     requires { ⌜ mode < 4 ⌝ }
@@ -196,14 +196,14 @@ pub(crate) fn word(f: Form) -> u32
             offset,
         } => add_sub_word(op, d, n, amount, offset),
         Form::TwoSource { op, d, n, m } => two_source_word(op, d, n, m),
-        Form::Ldg { t, n, amount } => tag_access_word(0xD960_0000, 0, t, n, amount),
+        Form::Ldg { t, n, amount } => memory_tags_word(0xD960_0000, 0, t, n, amount),
         Form::TagStore {
             op,
             mode,
             t,
             n,
             amount,
-        } => tag_access_word(tag_store_bits(op), mode_bits(mode), t, n, amount),
+        } => memory_tags_word(tag_store_bits(op), mode_bits(mode), t, n, amount),
         Form::Stgp {
             mode,
             t,

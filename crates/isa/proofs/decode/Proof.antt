@@ -7,7 +7,7 @@ use Rattle.bits.specs.Fields.{bitsAt}
 use Rattle.isa.specs.declared.AddSubOp.the-variants.{Addg, Subg}
 use Rattle.isa.specs.declared.TagStoreOp.the-variants.{Stg, Stzg, St2g, Stz2g}
 use Rattle.isa.specs.declared.Mode.the-variants.{Post, Pre, Offset}
-use Rattle.isa.proofs.Decoding.{decode-add-sub, decode-two-source, decode-subps, decode-tag-access, decode-stgp, decode-none}
+use Rattle.isa.proofs.Decoding.{decode-add-sub, decode-two-source, decode-subps, decode-memory-tags, decode-stgp, decode-none}
 use Rattle.isa.proofs.decode.Statement.{statement}
 use Rattle.isa.proofs.decode.Tie as tie
 
@@ -26,17 +26,17 @@ two-source-requires c κs = search needs
 subps-requires : tie.Need-subps-requires
 subps-requires c κs = search needs
 
-tag-access-requires : tie.Need-tag-access-requires
-tag-access-requires c κs = search needs
+memory-tags-requires : tie.Need-memory-tags-requires
+memory-tags-requires c κs = search needs
 
-tag-access-requires-2 : tie.Need-tag-access-requires-2
-tag-access-requires-2 c κs = search needs
+memory-tags-requires-2 : tie.Need-memory-tags-requires-2
+memory-tags-requires-2 c κs = search needs
 
-tag-access-requires-3 : tie.Need-tag-access-requires-3
-tag-access-requires-3 c κs = search needs
+memory-tags-requires-3 : tie.Need-memory-tags-requires-3
+memory-tags-requires-3 c κs = search needs
 
-tag-access-requires-4 : tie.Need-tag-access-requires-4
-tag-access-requires-4 c κs = search needs
+memory-tags-requires-4 : tie.Need-memory-tags-requires-4
+memory-tags-requires-4 c κs = search needs
 
 stgp-requires : tie.Need-stgp-requires
 stgp-requires c κs = search needs
@@ -60,16 +60,16 @@ returns-4 : tie.Need-returns-4
 returns-4 c = c .subps .ensures ∙ sym (decode-subps (c .before .before .before .args .w) (omega arith) (sym (c .before .before .field .ensures) ∙ c .before .match .keys4))
 
 returns-5 : tie.Need-returns-5
-returns-5 c = c .tag-access .ensures ∙ sym (decode-tag-access (c .before .before .before .args .w) (omega arith) Stg (sym (c .before .before .field .ensures) ∙ c .before .match .keys5))
+returns-5 c = c .memory-tags .ensures ∙ sym (decode-memory-tags (c .before .before .before .args .w) (omega arith) Stg (sym (c .before .before .field .ensures) ∙ c .before .match .keys5))
 
 returns-6 : tie.Need-returns-6
-returns-6 c = c .tag-access2 .ensures ∙ sym (decode-tag-access (c .before .before .before .args .w) (omega arith) Stzg (sym (c .before .before .field .ensures) ∙ c .before .match .keys6))
+returns-6 c = c .memory-tags2 .ensures ∙ sym (decode-memory-tags (c .before .before .before .args .w) (omega arith) Stzg (sym (c .before .before .field .ensures) ∙ c .before .match .keys6))
 
 returns-7 : tie.Need-returns-7
-returns-7 c = c .tag-access3 .ensures ∙ sym (decode-tag-access (c .before .before .before .args .w) (omega arith) St2g (sym (c .before .before .field .ensures) ∙ c .before .match .keys7))
+returns-7 c = c .memory-tags3 .ensures ∙ sym (decode-memory-tags (c .before .before .before .args .w) (omega arith) St2g (sym (c .before .before .field .ensures) ∙ c .before .match .keys7))
 
 returns-8 : tie.Need-returns-8
-returns-8 c = c .tag-access4 .ensures ∙ sym (decode-tag-access (c .before .before .before .args .w) (omega arith) Stz2g (sym (c .before .before .field .ensures) ∙ c .before .match .keys8))
+returns-8 c = c .memory-tags4 .ensures ∙ sym (decode-memory-tags (c .before .before .before .args .w) (omega arith) Stz2g (sym (c .before .before .field .ensures) ∙ c .before .match .keys8))
 
 returns-9 : tie.Need-returns-9
 returns-9 c = c .stgp .ensures ∙ sym (decode-stgp (c .before .before .before .args .w) (omega arith) Post (sym (c .before .before .field .ensures) ∙ c .before .match .keys9))
@@ -101,10 +101,10 @@ decode-spec =
     add-sub-requires-2
     two-source-requires
     subps-requires
-    tag-access-requires
-    tag-access-requires-2
-    tag-access-requires-3
-    tag-access-requires-4
+    memory-tags-requires
+    memory-tags-requires-2
+    memory-tags-requires-3
+    memory-tags-requires-4
     stgp-requires
     stgp-requires-2
     stgp-requires-3

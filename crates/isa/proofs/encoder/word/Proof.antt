@@ -24,8 +24,8 @@ two-source-word-requires c κs = ap fieldsFit (sym (c .before .f2 .given .1)) �
 enum-known-f-3 : tie.Need-enum-known-f-3
 enum-known-f-3 c = search needs
 
-tag-access-word-requires : tie.Need-tag-access-word-requires
-tag-access-word-requires c κs = let g = c .before .f3 .given .0 in
+memory-tags-word-requires : tie.Need-memory-tags-word-requires
+memory-tags-word-requires c κs = let g = c .before .f3 .given .0 in
     omega (arith, two-registers (g .0) (g .1 .0) (amountIn 4096 4080 (g .1 .1 .0)) (ap fieldsFit (sym (c .before .f3 .given .1)) ∙ c .before .before .before .pre))
 
 enum-known-f-4 : tie.Need-enum-known-f-4
@@ -37,8 +37,8 @@ tag-store-bits-requires c κs = search needs
 mode-bits-requires : tie.Need-mode-bits-requires
 mode-bits-requires c κs = search needs
 
-tag-access-word-requires-2 : tie.Need-tag-access-word-requires-2
-tag-access-word-requires-2 c κs =
+memory-tags-word-requires-2 : tie.Need-memory-tags-word-requires-2
+memory-tags-word-requires-2 c κs =
     let g = c .before .before .before .f4 .given .0 in
     omega (arith, two-registers (g .1 .1 .0) (g .1 .1 .1 .0) (amountIn 4096 4080 (g .1 .1 .1 .1 .0)) (ap fieldsFit (sym (c .before .before .before .f4 .given .1)) ∙ c .before .before .before .before .before .pre), tag-store-parts (g .0), mode-small (g .1 .0))
 
@@ -55,10 +55,10 @@ returns-2 : tie.Need-returns-2
 returns-2 c = c .two-source-word .ensures ∙ ap wordOf (sym (c .before .before .f2 .given .1))
 
 returns-3 : tie.Need-returns-3
-returns-3 c = c .tag-access-word .ensures ∙ (omega arith) ∙ ap wordOf (sym (c .before .before .f3 .given .1))
+returns-3 c = c .memory-tags-word .ensures ∙ (omega arith) ∙ ap wordOf (sym (c .before .before .f3 .given .1))
 
 returns-4 : tie.Need-returns-4
-returns-4 c = c .tag-access-word2 .ensures ∙ (cc) ∙ ap wordOf (sym (c .before .before .before .before .f4 .given .1))
+returns-4 c = c .memory-tags-word2 .ensures ∙ (cc) ∙ ap wordOf (sym (c .before .before .before .before .f4 .given .1))
 
 returns-5 : tie.Need-returns-5
 returns-5 c = c .stgp-word .ensures ∙ ap wordOf (sym (c .before .before .f5 .given .1))
@@ -72,11 +72,11 @@ word-spec =
     enum-known-f-2
     two-source-word-requires
     enum-known-f-3
-    tag-access-word-requires
+    memory-tags-word-requires
     enum-known-f-4
     tag-store-bits-requires
     mode-bits-requires
-    tag-access-word-requires-2
+    memory-tags-word-requires-2
     enum-known-f-5
     stgp-word-requires
     returns

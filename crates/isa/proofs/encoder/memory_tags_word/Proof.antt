@@ -1,11 +1,11 @@
--- `isa::encoder::tag_access_word` meets its contract: each field is put where there was none. Assumes nothing.
+-- `isa::encoder::memory_tags_word` meets its contract: each field is put where there was none. Assumes nothing.
 use borrow.Author.Needs.{needs}
 use Prim.Native.Nat.{_+_, _*_, _^_}
 use mathlib.Core.Path.{_≡_}
 use native.Mathlib.Omega.{arith}
 use Rattle.isa.proofs.Encoding.{two-put}
-use Rattle.isa.proofs.encoder.tag_access_word.Statement.{statement}
-use Rattle.isa.proofs.encoder.tag_access_word.Tie as tie
+use Rattle.isa.proofs.encoder.memory_tags_word.Statement.{statement}
+use Rattle.isa.proofs.encoder.memory_tags_word.Tie as tie
 
 -- what stands above the two low registers
 high : (c : tie.After-put2)
@@ -29,6 +29,6 @@ with-registers-requires c κs = omega (arith, high c)
 returns : tie.Need-returns
 returns c = omega (arith, high (c .before))
 
-pub tag-access-word-spec : {M : Type 1} → statement M
-tag-access-word-spec =
+pub memory-tags-word-spec : {M : Type 1} → statement M
+memory-tags-word-spec =
     tie.close (tie.spec field-requires put-requires put-requires-2 with-registers-requires returns)

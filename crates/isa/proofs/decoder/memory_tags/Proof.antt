@@ -1,11 +1,11 @@
--- `isa::decoder::tag_access` meets its contract. Assumes nothing.
+-- `isa::decoder::memory_tags` meets its contract. Assumes nothing.
 use borrow.Author.Needs.{needs}
 use Prim.Native.Nat.{ℕ}
 use borrow.Author.Tests.{eq-eqb, ne-eqb}
 use Rattle.isa.specs.DecodingBranches.{modeBranch}
 use Rattle.isa.proofs.Branches.{at-key, other-bit}
-use Rattle.isa.proofs.decoder.tag_access.Statement.{statement}
-use Rattle.isa.proofs.decoder.tag_access.Tie as tie
+use Rattle.isa.proofs.decoder.memory_tags.Statement.{statement}
+use Rattle.isa.proofs.decoder.memory_tags.Tie as tie
 
 field-requires : tie.Need-field-requires
 field-requires c κs = search needs
@@ -53,8 +53,8 @@ returns-5 c =
 returns-6 : tie.Need-returns-6
 returns-6 c = other-bit (c .before .before .args .w) 1 (c .before .field .ensures) _ (c .if1 .left)
 
-pub tag-access-spec : {M : Type 1} → statement M
-tag-access-spec =
+pub memory-tags-spec : {M : Type 1} → statement M
+memory-tags-spec =
     tie.close
     (tie.spec
     field-requires
