@@ -1,6 +1,8 @@
 -- `frontend::mte_choose_tag` meets its contract: each return gives what the definition gives by the tests that led there.
 -- Assumes nothing.
 use borrow.Author.Needs.{needs}
+use mathlib.Core.Bool.{or-true}
+use native.Mathlib.Omega.{arith}
 use borrow.Author.Tests.{lt-ltb, le-ltb}
 use Rattle.frontend.specs.FrontEnd.{choiceAnswer}
 use Rattle.frontend.proofs.mte_choose_tag.Statement.{statement}
@@ -8,15 +10,15 @@ use Rattle.frontend.proofs.mte_choose_tag.Tie as tie
 
 returns : tie.Need-returns
 unfolding choiceAnswer
-returns c = simp (lt-ltb _ _ (c .if1 .taken))
+returns c = simp (lt-ltb 15 (c .before .args .start) (omega arith))
 
 returns-2 : tie.Need-returns-2
 unfolding choiceAnswer
-returns-2 c = simp (le-ltb _ _ (c .before .if1 .left), lt-ltb _ _ (c .if2 .taken))
+returns-2 c = simp (lt-ltb 15 (c .before .before .args .offset) (omega arith), or-true)
 
 returns-3 : tie.Need-returns-3
 unfolding choiceAnswer
-returns-3 c = simp (le-ltb _ _ (c .before .before .if1 .left), le-ltb _ _ (c .before .if2 .left), lt-ltb _ _ (c .if3 .taken))
+returns-3 c = simp (lt-ltb 65535 (c .before .before .before .args .mask) (omega arith), or-true)
 
 cast-choose : tie.Need-cast-choose
 cast-choose c = search needs
@@ -36,7 +38,7 @@ cast-result c = search needs
 returns-4 : tie.Need-returns-4
 unfolding choiceAnswer
 returns-4 c =
-    simp (le-ltb _ _ (c .before .before .before .if1 .left), le-ltb _ _ (c .before .before .if2 .left), le-ltb _ _ (c .before .if3 .left))
+    simp (le-ltb 15 (c .before .before .before .before .args .start) (omega arith), le-ltb 15 (c .before .before .before .before .args .offset) (omega arith), le-ltb 65535 (c .before .before .before .before .args .mask) (omega arith))
     (c .choose .ensures)
 
 pub mte-choose-tag-spec : {M : Type 1} → statement M
