@@ -22,7 +22,7 @@ shift-mask w low width h =
     ap (λ (m : ℕ). bitAnd (w / 2 ^ low) (m - 1)) (one-shifted width h) ∙ and-mask (w / 2 ^ low) width
 
 -- a number as what is above a field, the field and what is below it
-pub parts : (w low width : ℕ) → w / 2 ^ (low + width) * 2 ^ (low + width) + bitsAt w low width * 2 ^ low + w % 2 ^ low ≡ w
+parts : (w low width : ℕ) → w / 2 ^ (low + width) * 2 ^ (low + width) + bitsAt w low width * 2 ^ low + w % 2 ^ low ≡ w
 parts w low width =
     let e : w % 2 ^ (low + width) ≡ bitsAt w low width * 2 ^ low + w % 2 ^ low =
     ap (λ (k : ℕ). w % 2 ^ k) (add-comm low width) ∙ mod-pow-add w width low in

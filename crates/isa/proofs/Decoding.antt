@@ -21,7 +21,7 @@ use Rattle.isa.specs.declared.Decoded.the-variants.{Is, Undefined}
 use Rattle.isa.specs.Words.{addSubBits, twoSourceBits, ldgBits, tagStoreBits, modeBits, stgpBits, granuleCount, wordOf}
 use Rattle.isa.specs.Decoding.{signedAmount, addSubAt, twoSourceAt, ldgAt, tagStoreAt, stgpAt, formsAt, formOf, decodeOf}
 use Rattle.isa.specs.DecodingBranches.{ifBit21, addSubBranch, twoSourceBranch, subpsBranch, ldgBranch, modeBranch}
-use Rattle.isa.proofs.Amounts.{unsigned-count, signed-count}
+use Rattle.isa.proofs.Amounts.{unsigned-count, imm9-count, simm7-count}
 use Rattle.isa.proofs.Fits.{and-left, and-right}
 use Rattle.isa.proofs.Table.{addSubTop, twoSourceTop, opcode, tagStoreTop, stgpTop, add-sub-parts, two-source-parts, tag-store-parts, mode-small, stgp-parts}
 
@@ -113,7 +113,7 @@ module _ (w : ℕ) (h : w < 2 ^ 32) where
   unfolding bits
   memory-tags-row fixed top mode p k =
       ap (λ (i : ℕ). eqb (fixed + i * 2 ^ 12 + mode * 2 ^ 10 + bitsAt w 5 5 * 2 ^ 5 + bitsAt w 0 5) w)
-      (signed-count 9 256 refl (omega arith) (omega arith) (bitsAt w 12 9) (omega arith))
+      (imm9-count (bitsAt w 12 9) (omega arith))
       ∙ three-tests (memory-tags-sum fixed top mode p k (omega arith) (omega arith))
 
   tag-store-row : (op : TagStoreOp) (mode : Mode) → eqb (wordOf (tagStoreAt op mode w)) w
@@ -133,7 +133,7 @@ module _ (w : ℕ) (h : w < 2 ^ 32) where
   unfolding bits
   stgp-row mode =
       ap (λ (i : ℕ). eqb (stgpBits mode + i * 2 ^ 15 + bitsAt w 10 5 * 2 ^ 10 + bitsAt w 5 5 * 2 ^ 5 + bitsAt w 0 5) w)
-      (signed-count 7 64 refl (omega arith) (omega arith) (bitsAt w 15 7) (omega arith))
+      (simm7-count (bitsAt w 15 7) (omega arith))
       ∙ one-test (stgp-sum mode)
 
 -- the rows as tests of w's bits, bits 31:22 apart

@@ -26,7 +26,7 @@ use Rattle.isa.specs.Words.{modeBits, granuleCount, wordOf}
 use Rattle.isa.specs.Decoding.{addSubAt, twoSourceAt, ldgAt, tagStoreAt, stgpAt, formsAt, formOf, decodeOf}
 use Rattle.isa.specs.Encoding.{register, amountIn, fieldsFit, encodeOf}
 use Rattle.isa.specs.RoundTrip.{RoundTrip}
-use Rattle.isa.proofs.Amounts.{unsigned-in, signed-in, unsigned-back, signed-back}
+use Rattle.isa.proofs.Amounts.{unsigned-in, unsigned-back, imm9-in, imm9-back, simm7-in, simm7-back}
 use Rattle.isa.proofs.Decoding.{decode-add-sub, decode-two-source, decode-subps, decode-memory-tags, decode-stgp}
 use Rattle.isa.proofs.Fits.{two-registers, three-fields}
 use Rattle.isa.proofs.Table.{addSubTop, twoSourceTop, opcode, tagStoreTop, stgpTop, add-sub-parts, two-source-parts, tag-store-parts, mode-small, stgp-parts}
@@ -91,19 +91,19 @@ decodes (Ldg t n amount) h =
     let b = two-registers t n (amountIn 4096 4080 amount) h in
     let w = wordOf (Ldg t n amount) in
     let q = memory-tags-fields w (tagStoreTop Stzg) (granuleCount 9 amount) 0 n t (omega arith) (omega arith) (omega arith) (omega arith) (omega arith) (omega arith) in
-    decode-memory-tags w (narrow (Ldg t n amount) h) Stzg (q .0) ∙ simp (q .1, q .3, q .5, q .4, q .2, signed-back 9 256 refl (omega arith) (omega arith) 4096 4080 amount refl refl (b .2))
+    decode-memory-tags w (narrow (Ldg t n amount) h) Stzg (q .0) ∙ simp (q .1, q .3, q .5, q .4, q .2, imm9-back amount (b .2))
 decodes (TagStore op mode t n amount) h =
     let b = two-registers t n (amountIn 4096 4080 amount) h in
     let w = wordOf (TagStore op mode t n amount) in
     let p = tag-store-parts op in
     let q = memory-tags-fields w (tagStoreTop op) (granuleCount 9 amount) (modeBits mode) n t (omega arith) (p .1) (omega arith) (mode-small mode) (omega arith) (omega arith) in
-    tag-store-found op mode w (narrow (TagStore op mode t n amount) h) (q .0) (q .1) (q .3) ∙ simp (q .5, q .4, q .2, signed-back 9 256 refl (omega arith) (omega arith) 4096 4080 amount refl refl (b .2))
+    tag-store-found op mode w (narrow (TagStore op mode t n amount) h) (q .0) (q .1) (q .3) ∙ simp (q .5, q .4, q .2, imm9-back amount (b .2))
 decodes (Stgp mode t t2 n amount) h =
     let b = three-fields t t2 n 31 (amountIn 1024 1008 amount) h in
     let w = wordOf (Stgp mode t t2 n amount) in
     let p = stgp-parts mode in
     let q = stgp-fields w (stgpTop mode) (granuleCount 7 amount) t2 n t (omega arith) (p .1) (omega arith) (omega arith) (omega arith) (omega arith) in
-    decode-stgp w (narrow (Stgp mode t t2 n amount) h) mode (q .0) ∙ simp (q .4, q .3, q .2, q .1, signed-back 7 64 refl (omega arith) (omega arith) 1024 1008 amount refl refl (b .3))
+    decode-stgp w (narrow (Stgp mode t t2 n amount) h) mode (q .0) ∙ simp (q .4, q .3, q .2, q .1, simm7-back amount (b .3))
 
 -- the other way: what is found among forms whose fields are in range
 
@@ -139,11 +139,11 @@ module _ (w : ℕ) where
   two-source-fit op = simp (field-fits 0, field-fits 5, field-fits 16)
 
   ldg-fit : fieldsFit (ldgAt w) ≡ true
-  ldg-fit = simp (field-fits 0, field-fits 5, signed-in 256 4096 4080 (bitsAt w 12 9) (omega arith) refl refl (omega arith))
+  ldg-fit = simp (field-fits 0, field-fits 5, imm9-in (bitsAt w 12 9) (omega arith))
 
   stgp-fit : (mode : Mode) → fieldsFit (stgpAt mode w) ≡ true
   stgp-fit mode =
-      simp (field-fits 0, field-fits 5, field-fits 10, signed-in 64 1024 1008 (bitsAt w 15 7) (omega arith) refl refl (omega arith))
+      simp (field-fits 0, field-fits 5, field-fits 10, simm7-in (bitsAt w 15 7) (omega arith))
 
   -- a tag store has the fields of LDG
   stores-fit : (op : TagStoreOp) {fs : List Form} → AllFit fs

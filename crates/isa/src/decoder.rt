@@ -123,6 +123,7 @@ pub(crate) fn memory_tags(op: TagStoreOp, w: u64) -> Decoded
             1 => tag_store(op, Mode::Post, w),
             3 => tag_store(op, Mode::Pre, w),
             2 => tag_store(op, Mode::Offset, w),
+            // Two bits have no other value, but a match on a number asks for this arm.
             _ => Decoded::Undefined,
         }
     } else {
