@@ -1,4 +1,4 @@
--- Fields of a number: document 01 writes them by their highest and lowest bit, "imm6 at 21:16".
+-- Fields of a number: document 01, "Words", writes them by their highest and lowest bit, "imm6 at 21:16".
 use Prim.Native.Nat.{ℕ, _+_, _-_, _*_, _/_, _%_, _^_}
 
 -- bits low + width - 1 down to low of w
