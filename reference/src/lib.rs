@@ -1,6 +1,15 @@
 //! The pure part of the reference: what document 01 says, and the comparisons
 //! of it with any other answer. Nothing in here needs the library under test.
 
+mod accesses;
+pub mod code;
 pub mod compare;
+pub mod draw;
+pub mod encoder;
+pub mod machine;
+pub mod player;
+mod pointers;
+pub mod script;
 pub mod tag_choice;
+pub mod tally;
 pub mod words;

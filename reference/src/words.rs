@@ -2,11 +2,43 @@
 
 use std::sync::LazyLock;
 
+#[derive(Clone, Copy, Debug, PartialEq)]
+pub enum Instruction {
+    Addg,
+    Subg,
+    Subp,
+    Subps,
+    Irg,
+    Gmi,
+    Ldg,
+    Stg,
+    Stzg,
+    St2g,
+    Stz2g,
+    Stgp,
+}
+
+use Instruction::*;
+
+/// How a store comes to its address, and whether it writes the base register
+/// back. The numbers are bits 11:10 of the tag stores.
+#[derive(Clone, Copy, Debug, PartialEq)]
+pub enum Mode {
+    Post = 0b01,
+    Offset = 0b10,
+    Pre = 0b11,
+}
+
+use Mode::*;
+
 /// One instruction form: a word is of this form when it has `fixed` in all
-/// places of `mask`. The places outside the mask are its fields.
+/// places of `mask`. The places outside the mask are its fields. Only the
+/// stores have a mode.
 #[derive(Debug, PartialEq)]
 pub struct Form {
     pub name: &'static str,
+    pub instruction: Instruction,
+    pub mode: Option<Mode>,
     pub fixed: u32,
     pub mask: u32,
 }
@@ -20,44 +52,72 @@ const GRANULE_ACCESS: u32 = 0b1111_1111_1110_0000_0000_1100_0000_0000;
 /// All places but simm7 at 21:15, Rt2 at 14:10, Rn and Rt.
 const REGISTER_PAIR: u32 = 0b1111_1111_1100_0000_0000_0000_0000_0000;
 
-/// Bits 11:10 of the tag stores.
-const POST: u32 = 0b01 << 10;
-const PRE: u32 = 0b11 << 10;
-const OFFSET: u32 = 0b10 << 10;
+const fn no_store(name: &'static str, instruction: Instruction, fixed: u32, mask: u32) -> Form {
+    Form {
+        name,
+        instruction,
+        mode: None,
+        fixed,
+        mask,
+    }
+}
 
-const fn form(name: &'static str, fixed: u32, mask: u32) -> Form {
-    Form { name, fixed, mask }
+const fn tag_store(name: &'static str, instruction: Instruction, mode: Mode, fixed: u32) -> Form {
+    Form {
+        name,
+        instruction,
+        mode: Some(mode),
+        fixed: fixed | (mode as u32) << 10,
+        mask: GRANULE_ACCESS,
+    }
+}
+
+const fn pair_store(name: &'static str, mode: Mode, fixed: u32) -> Form {
+    Form {
+        name,
+        instruction: Stgp,
+        mode: Some(mode),
+        fixed,
+        mask: REGISTER_PAIR,
+    }
 }
 
 /// The 22 forms, in the order of the paper's table. Bits that the table gives
 /// to no field are fixed: 15:14 of ADDG and SUBG, 11:10 of LDG, and 15:10 of
 /// the forms with three registers.
 pub static FORMS: [Form; 22] = [
-    form("ADDG", 0x9180_0000, AMOUNT_AND_TAG_OFFSET),
-    form("SUBG", 0xD180_0000, AMOUNT_AND_TAG_OFFSET),
-    form("SUBP", 0x9AC0_0000, THREE_REGISTERS),
-    form("SUBPS", 0xBAC0_0000, THREE_REGISTERS),
-    form("IRG", 0x9AC0_1000, THREE_REGISTERS),
-    form("GMI", 0x9AC0_1400, THREE_REGISTERS),
-    form("LDG", 0xD960_0000, GRANULE_ACCESS),
-    form("STG post", 0xD920_0000 | POST, GRANULE_ACCESS),
-    form("STG pre", 0xD920_0000 | PRE, GRANULE_ACCESS),
-    form("STG offset", 0xD920_0000 | OFFSET, GRANULE_ACCESS),
-    form("STZG post", 0xD960_0000 | POST, GRANULE_ACCESS),
-    form("STZG pre", 0xD960_0000 | PRE, GRANULE_ACCESS),
-    form("STZG offset", 0xD960_0000 | OFFSET, GRANULE_ACCESS),
-    form("ST2G post", 0xD9A0_0000 | POST, GRANULE_ACCESS),
-    form("ST2G pre", 0xD9A0_0000 | PRE, GRANULE_ACCESS),
-    form("ST2G offset", 0xD9A0_0000 | OFFSET, GRANULE_ACCESS),
-    form("STZ2G post", 0xD9E0_0000 | POST, GRANULE_ACCESS),
-    form("STZ2G pre", 0xD9E0_0000 | PRE, GRANULE_ACCESS),
-    form("STZ2G offset", 0xD9E0_0000 | OFFSET, GRANULE_ACCESS),
-    form("STGP post", 0x6880_0000, REGISTER_PAIR),
-    form("STGP pre", 0x6980_0000, REGISTER_PAIR),
-    form("STGP offset", 0x6900_0000, REGISTER_PAIR),
+    no_store("ADDG", Addg, 0x9180_0000, AMOUNT_AND_TAG_OFFSET),
+    no_store("SUBG", Subg, 0xD180_0000, AMOUNT_AND_TAG_OFFSET),
+    no_store("SUBP", Subp, 0x9AC0_0000, THREE_REGISTERS),
+    no_store("SUBPS", Subps, 0xBAC0_0000, THREE_REGISTERS),
+    no_store("IRG", Irg, 0x9AC0_1000, THREE_REGISTERS),
+    no_store("GMI", Gmi, 0x9AC0_1400, THREE_REGISTERS),
+    no_store("LDG", Ldg, 0xD960_0000, GRANULE_ACCESS),
+    tag_store("STG post", Stg, Post, 0xD920_0000),
+    tag_store("STG pre", Stg, Pre, 0xD920_0000),
+    tag_store("STG offset", Stg, Offset, 0xD920_0000),
+    tag_store("STZG post", Stzg, Post, 0xD960_0000),
+    tag_store("STZG pre", Stzg, Pre, 0xD960_0000),
+    tag_store("STZG offset", Stzg, Offset, 0xD960_0000),
+    tag_store("ST2G post", St2g, Post, 0xD9A0_0000),
+    tag_store("ST2G pre", St2g, Pre, 0xD9A0_0000),
+    tag_store("ST2G offset", St2g, Offset, 0xD9A0_0000),
+    tag_store("STZ2G post", Stz2g, Post, 0xD9E0_0000),
+    tag_store("STZ2G pre", Stz2g, Pre, 0xD9E0_0000),
+    tag_store("STZ2G offset", Stz2g, Offset, 0xD9E0_0000),
+    pair_store("STGP post", Post, 0x6880_0000),
+    pair_store("STGP pre", Pre, 0x6980_0000),
+    pair_store("STGP offset", Offset, 0x6900_0000),
 ];
 
 impl Form {
+    /// The key of the form's line in a script: the instruction's name in
+    /// lower case, without the mode.
+    pub fn key(&self) -> String {
+        let instruction = self.name.split(' ').next().unwrap_or(self.name);
+        instruction.to_lowercase()
+    }
+
     fn matches(&self, word: u32) -> bool {
         word & self.mask == self.fixed
     }

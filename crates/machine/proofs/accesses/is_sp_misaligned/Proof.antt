@@ -1,0 +1,11 @@
+use Rattle.machine.proofs.accesses.is_sp_misaligned.Statement.{statement}
+use Rattle.machine.proofs.accesses.is_sp_misaligned.Tie as tie
+
+returns : tie.Need-returns
+returns c = ?
+
+returns-2 : tie.Need-returns-2
+returns-2 c = ?
+
+pub is-sp-misaligned-spec : {M : Type 1} → statement M
+is-sp-misaligned-spec = tie.close (tie.spec returns returns-2)

@@ -1,0 +1,104 @@
+use borrow.Author.Needs.{needs}
+use Rattle.machine.proofs.effects.change_data.Statement.{statement}
+use Rattle.machine.proofs.effects.change_data.Tie as tie
+
+mul-at : tie.Need-mul-at
+mul-at c = search needs
+
+enum-told : tie.Need-enum-told
+enum-told c = search needs
+
+enum-told-2 : tie.Need-enum-told-2
+enum-told-2 c = search needs
+
+sub-zero : tie.Need-sub-zero
+sub-zero c = search needs
+
+part-zero-start : tie.Need-part-zero-start
+part-zero-start c = search needs
+
+part-zero-end : tie.Need-part-zero-end
+part-zero-end c = search needs
+
+zero-requires : tie.Need-zero-requires
+zero-requires c κs = ?
+
+enum-known-change : tie.Need-enum-known-change
+enum-known-change c = search needs
+
+sub-store-pair : tie.Need-sub-store-pair
+sub-store-pair c = search needs
+
+part-store-pair-start : tie.Need-part-store-pair-start
+part-store-pair-start c = search needs
+
+part-store-pair-end : tie.Need-part-store-pair-end
+part-store-pair-end c = search needs
+
+store-pair-requires : tie.Need-store-pair-requires
+store-pair-requires c κs = ?
+
+enum-known-change-2 : tie.Need-enum-known-change-2
+enum-known-change-2 c = search needs
+
+sub-restore : tie.Need-sub-restore
+sub-restore c = search needs
+
+part-restore-start : tie.Need-part-restore-start
+part-restore-start c = search needs
+
+part-restore-end : tie.Need-part-restore-end
+part-restore-end c = search needs
+
+restore-requires : tie.Need-restore-requires
+restore-requires c κs = ?
+
+returns : tie.Need-returns
+returns c = search needs
+
+same-length : tie.Need-same-length
+same-length c = search needs
+
+returns-2 : tie.Need-returns-2
+returns-2 c = ?
+
+same-length-2 : tie.Need-same-length-2
+same-length-2 c = search needs
+
+returns-3 : tie.Need-returns-3
+returns-3 c = ?
+
+same-length-3 : tie.Need-same-length-3
+same-length-3 c = search needs
+
+returns-4 : tie.Need-returns-4
+returns-4 c = ?
+
+pub change-data-spec : {M : Type 1} → statement M
+change-data-spec =
+    tie.close
+    (tie.spec
+    mul-at
+    enum-told
+    enum-told-2
+    sub-zero
+    part-zero-start
+    part-zero-end
+    zero-requires
+    enum-known-change
+    sub-store-pair
+    part-store-pair-start
+    part-store-pair-end
+    store-pair-requires
+    enum-known-change-2
+    sub-restore
+    part-restore-start
+    part-restore-end
+    restore-requires
+    returns
+    same-length
+    returns-2
+    same-length-2
+    returns-3
+    same-length-3
+    returns-4)

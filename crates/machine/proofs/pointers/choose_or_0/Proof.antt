@@ -1,0 +1,15 @@
+use borrow.Author.Needs.{needs}
+use Rattle.machine.proofs.pointers.choose_or_0.Statement.{statement}
+use Rattle.machine.proofs.pointers.choose_or_0.Tie as tie
+
+choose-requires : tie.Need-choose-requires
+choose-requires c κs = search needs
+
+returns : tie.Need-returns
+returns c = ?
+
+returns-2 : tie.Need-returns-2
+returns-2 c = search needs
+
+pub choose-or-0-spec : {M : Type 1} → statement M
+choose-or-0-spec = tie.close (tie.spec choose-requires returns returns-2)

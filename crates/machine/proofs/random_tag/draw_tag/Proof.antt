@@ -1,0 +1,15 @@
+use borrow.Author.Needs.{needs}
+use Rattle.machine.proofs.random_tag.draw_tag.Statement.{statement}
+use Rattle.machine.proofs.random_tag.draw_tag.Tie as tie
+
+draw-requires : tie.Need-draw-requires
+draw-requires c κs = search needs
+
+choose-requires : tie.Need-choose-requires
+choose-requires c κs = search needs
+
+returns : tie.Need-returns
+returns c = ?
+
+pub draw-tag-spec : {M : Type 1} → statement M
+draw-tag-spec = tie.close (tie.spec draw-requires choose-requires returns)

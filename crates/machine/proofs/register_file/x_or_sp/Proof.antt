@@ -1,0 +1,18 @@
+use borrow.Author.Needs.{needs}
+use Rattle.machine.proofs.register_file.x_or_sp.Statement.{statement}
+use Rattle.machine.proofs.register_file.x_or_sp.Tie as tie
+
+mul-result : tie.Need-mul-result
+mul-result c = search needs
+
+element-copy-out-result : tie.Need-element-copy-out-result
+element-copy-out-result c = search needs
+
+returns : tie.Need-returns
+returns c = search needs
+
+returns-2 : tie.Need-returns-2
+returns-2 c = ?
+
+pub x-or-sp-spec : {M : Type 1} → statement M
+x-or-sp-spec = tie.close (tie.spec mul-result element-copy-out-result returns returns-2)

@@ -1,0 +1,18 @@
+use borrow.Author.Needs.{needs}
+use Rattle.machine.proofs.setup_ok.Statement.{statement}
+use Rattle.machine.proofs.setup_ok.Tie as tie
+
+state-ok-requires : tie.Need-state-ok-requires
+state-ok-requires c κs = search needs
+
+cursor-ok-requires : tie.Need-cursor-ok-requires
+cursor-ok-requires c κs = search needs
+
+returns : tie.Need-returns
+returns c = ?
+
+returns-2 : tie.Need-returns-2
+returns-2 c = ?
+
+pub setup-ok-spec : {M : Type 1} → statement M
+setup-ok-spec = tie.close (tie.spec state-ok-requires cursor-ok-requires returns returns-2)

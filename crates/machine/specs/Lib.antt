@@ -1,0 +1,14 @@
+pub mod State
+pub mod Registers
+pub mod Setup
+pub mod Codes
+pub mod Pointers
+pub mod RandomTag
+pub mod Accesses
+pub mod TagLoad
+pub mod TagStores
+pub mod PairStore
+pub mod Words
+pub mod Execution
+pub mod Effects
+pub mod Plans

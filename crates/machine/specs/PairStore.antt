@@ -1,0 +1,26 @@
+-- STGP (document 003; document 01, "Stores").
+use Prim.Native.Nat.{ℕ, _-_}
+use mathlib.Core.List.{List}
+use lib.Seq.{sets}
+use Rattle.bits.specs.LittleEndian.{bytesOf}
+use Rattle.isa.specs.declared.Mode.{Mode}
+use Rattle.memory.specs.Addresses.{location, onward}
+use Rattle.machine.specs.State.{State, withBytes}
+use Rattle.machine.specs.Registers.{xOrSp, xOrZero}
+use Rattle.machine.specs.Accesses.{addressOf, writeback}
+use Rattle.machine.specs.Pointers.{tagOf}
+use Rattle.machine.specs.TagStores.{storeTag}
+
+-- a word stored at an address
+abbrev pub storeWord : ℕ → ℕ → State → State
+storeWord address v s = withBytes (sets (s .bytes) (location address - s .settings .base) (bytesOf v)) s
+
+-- Rt, then Rt2, then the tag, which is that of the address computed
+abbrev pub storePair : ℕ → ℕ → ℕ → State → State
+storePair address low high s = storeTag address (tagOf address) (storeWord (onward address 8) high (storeWord address low s))
+
+-- STGP
+abbrev pub stgp : Mode → ℕ → ℕ → ℕ → ℕ → State → State
+stgp mode t t2 n amount s =
+    writeback mode n (onward (xOrSp (s .registers .x) n) amount)
+    (storePair (addressOf mode (xOrSp (s .registers .x) n) amount) (xOrZero (s .registers .x) t) (xOrZero (s .registers .x) t2) s)

@@ -1,0 +1,47 @@
+-- The state that words change (document 01, "The machine we model"), without history and cursor.
+use Prim.Native.Nat.{ℕ}
+use mathlib.Core.Bool.{true}
+use mathlib.Core.List.{List}
+use lib.ListN.{replicate}
+use Rattle.machine.specs.declared.Settings.{Settings}
+use Rattle.machine.specs.declared.Status.{Status}
+use Rattle.machine.specs.declared.Registers.{Registers}
+use Rattle.machine.specs.declared.Cursor.{Cursor}
+use Rattle.machine.specs.declared.Machine.{Machine}
+
+pub record State : Type 0 where
+  pub settings : Settings
+  pub registers : Registers
+  pub bytes : List ℕ
+  pub tags : List ℕ
+
+abbrev pub stateOf : Settings → List ℕ → Status → List ℕ → List ℕ → State
+stateOf settings x status bytes tags =
+    record { settings = settings; registers = record { x = x; status = status }; bytes = bytes; tags = tags }
+
+-- a machine's state with the lent bytes
+abbrev pub withMemory : Machine → List ℕ → List ℕ → State
+withMemory m bytes tags = record { settings = m .settings; registers = m .registers; bytes = bytes; tags = tags }
+
+-- a state with one part replaced
+
+abbrev pub withX : List ℕ → State → State
+withX x s = stateOf (s .settings) x (s .registers .status) (s .bytes) (s .tags)
+
+abbrev pub withStatus : Status → State → State
+withStatus status s = stateOf (s .settings) (s .registers .x) status (s .bytes) (s .tags)
+
+abbrev pub withBytes : List ℕ → State → State
+withBytes bytes s = stateOf (s .settings) (s .registers .x) (s .registers .status) bytes (s .tags)
+
+abbrev pub withTags : List ℕ → State → State
+withTags tags s = stateOf (s .settings) (s .registers .x) (s .registers .status) (s .bytes) tags
+
+-- a fresh machine on a given base: every register, flag, RGSR field and mask bit 0, tag access on and cursor (0, 0)
+abbrev pub freshOn : ℕ → Machine
+freshOn base =
+    record {
+      settings = record { base = base; exclude = 0; access = true };
+      registers = record { x = replicate 32 0; status = record { nzcv = 0; rgsr = 0; seed = 0 } };
+      cursor = record { next = 0; held = 0 };
+    }

@@ -1,0 +1,25 @@
+-- LDG (document 01, "What each word does", "Stores").
+use Prim.Native.Nat.{ℕ, _%_}
+use mathlib.Core.Bool.{cond}
+use mathlib.Core.List.{List}
+use lib.ListN.{getD}
+use Rattle.memory.specs.Addresses.{indexOf, onward}
+use Rattle.machine.specs.declared.Settings.{Settings}
+use Rattle.machine.specs.State.{State}
+use Rattle.machine.specs.Registers.{xOrSp, xOrZero, toXOrZero}
+use Rattle.machine.specs.Accesses.{roundedDown}
+use Rattle.machine.specs.Pointers.{withTag}
+
+abbrev pub ldgAddress : List ℕ → ℕ → ℕ → ℕ
+ldgAddress x n amount = roundedDown (onward (xOrSp x n) amount)
+
+-- a tag is the low four bits of its byte when read; with tag access off it is 0
+abbrev pub loadedTag : Settings → List ℕ → ℕ → ℕ
+loadedTag settings tags i = cond (settings .access) (getD tags i 0 % 16) 0
+
+-- LDG
+abbrev pub ldg : ℕ → ℕ → ℕ → State → State
+ldg t n amount s =
+    toXOrZero t
+    (withTag (xOrZero (s .registers .x) t)
+    (loadedTag (s .settings) (s .tags) (indexOf (s .settings .base) (ldgAddress (s .registers .x) n amount)))) s

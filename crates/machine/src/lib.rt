@@ -1,0 +1,301 @@
+// The machine: what each word does to it, judged first and then applied.
+ghost use mathlib.Core.Path.{_≡_};
+ghost use mathlib.Core.Bool.{true};
+ghost use Prim.Native.Nat.{_*_};
+ghost use lib.ListN.{length};
+ghost use Rattle.machine.specs.Codes.{codeNumber};
+ghost use Rattle.machine.specs.Effects.{Within, bytesAfter, tagsAfter, xAfter};
+ghost use Rattle.machine.specs.Execution.{executed, executionOf};
+ghost use Rattle.machine.specs.Plans.{JudgedWithin, decodedFits, outcome, planOf, planOutcome};
+ghost use Rattle.machine.specs.Setup.{cursorOk, setupOk, stateOk};
+ghost use Rattle.machine.specs.State.{freshOn, stateOf};
+ghost use Rattle.machine.specs.Words.{wordOutcome};
+use isa::Decoded;
+
+mod accesses;
+mod effects;
+mod forms;
+mod pair_store;
+mod pointers;
+mod random_tag;
+mod register_file;
+mod tag_load;
+mod tag_stores;
+
+// What no word changes.
+pub struct Settings {
+    pub base: u64,
+    pub exclude: u16,
+    pub access: bool,
+}
+
+// The flags NZCV, and RGSR_EL1: its tag (rgsr) and its seed.
+pub struct Status {
+    pub nzcv: u8,
+    pub rgsr: u8,
+    pub seed: u16,
+}
+
+// X0 to X30 with SP at 31, and the status.
+pub struct Registers {
+    pub x: [u64; 32],
+    pub status: Status,
+}
+
+// The place in the history: the slot that is written next, and how many are held.
+pub struct Cursor {
+    pub next: usize,
+    pub held: usize,
+}
+
+pub struct Machine {
+    pub settings: Settings,
+    pub registers: Registers,
+    pub cursor: Cursor,
+}
+
+pub enum Code {
+    Done,
+    Setup,
+    Undefined,
+    SpAlign,
+    Align,
+    Outside,
+    NoHistory,
+    BadRecord,
+    Field,
+}
+
+// What becomes of the data of an effect's granules.
+pub enum Change {
+    Keep,
+    Zero,
+    Pair(u64, u64),
+    // two words for each granule, as a step back restores them
+    Words(u64, u64, u64, u64),
+}
+
+// What an accepted word changes: a register (0 to 30, 31 SP, 32 none), the status, and the granules from first on.
+pub struct Effect {
+    pub register: u64,
+    pub value: u64,
+    pub status: Status,
+    pub first: usize,
+    pub granules: usize,
+    pub tagged: bool,
+    pub tag: u8,
+    pub second: u8,
+    pub change: Change,
+}
+
+// The first granule that an access names, or its refusal.
+pub enum Placed {
+    First(usize),
+    Nowhere(Code),
+}
+
+// A word's effect, or its refusal.
+pub enum Judged {
+    Refused(Code),
+    Accepted(Effect),
+}
+
+pub struct Answer {
+    pub code: Code,
+    pub machine: Machine,
+}
+
+// The code and the status after a word.
+struct Performed {
+    code: Code,
+    status: Status,
+}
+
+impl Code {
+    // The code's number in document 01.
+    pub fn number(self) -> u32
+        ensures { λ r. ⌜ r ≡ codeNumber self ⌝ }
+    {
+        match self {
+            Code::Done => 0,
+            Code::Setup => 1,
+            Code::Undefined => 2,
+            Code::SpAlign => 3,
+            Code::Align => 4,
+            Code::Outside => 5,
+            Code::NoHistory => 6,
+            Code::BadRecord => 7,
+            Code::Field => 8,
+        }
+    }
+}
+
+// A fresh machine on a base.
+pub fn fresh(base: u64) -> Machine
+    ensures { λ r. ⌜ r ≡ freshOn base ⌝ }
+{
+    Machine {
+        settings: Settings {
+            base: base,
+            exclude: 0,
+            access: true,
+        },
+        registers: Registers {
+            x: [0; 32],
+            status: Status {
+                nzcv: 0,
+                rgsr: 0,
+                seed: 0,
+            },
+        },
+        cursor: Cursor { next: 0, held: 0 },
+    }
+}
+
+fn cursor_ok(slots: usize, cursor: Cursor) -> bool
+    ensures { λ r. ⌜ r ≡ cursorOk slots cursor ⌝ }
+{
+    if slots == 0 {
+        if cursor.next == 0 {
+            return cursor.held == 0;
+        }
+        return false;
+    }
+    if cursor.next < slots {
+        return cursor.held <= slots;
+    }
+    false
+}
+
+fn state_ok(settings: Settings, status: Status, bytes: usize, granules: usize) -> bool
+    ensures { λ r. ⌜ r ≡ stateOk settings status bytes granules ⌝ }
+{
+    if memory::sizes_ok(settings.base, bytes, granules) {
+        if status.nzcv <= 15 {
+            return status.rgsr <= 15;
+        }
+    }
+    false
+}
+
+// Whether a machine with so many data bytes, tag bytes and history words keeps the rules of the setup.
+pub fn setup_ok(machine: Machine, bytes: usize, granules: usize, words: usize) -> bool
+    ensures { λ r. ⌜ r ≡ setupOk machine bytes granules words ⌝ }
+{
+    let settings = machine.settings;
+    let status = machine.registers.status;
+    let cursor = machine.cursor;
+    if state_ok(settings, status, bytes, granules) {
+        return cursor_ok(words / 8, cursor);
+    }
+    false
+}
+
+// A word's effect, or the refusal of the lowest code that applies, on a setup that keeps the rules. It changes nothing.
+// Public because our own crates call it, with such a setup and a word that was decoded.
+pub fn judge(
+    x: &[u64; 32],
+    settings: Settings,
+    status: Status,
+    tags: &[u8],
+    decoded: Decoded,
+) -> Judged
+    requires { ⌜ stateOk settings status (16 * length (now tags)) (length (now tags)) ≡ true ⌝ }
+    requires { ⌜ decodedFits decoded ≡ true ⌝ }
+    ensures { λ r. ⌜ r ≡ planOf settings (now (x .entry)) status (now (tags .entry)) decoded ⌝ }
+{
+    match decoded {
+        Decoded::Is(form) => forms::judge_form(x, settings, status, tags, form),
+        Decoded::Undefined => Judged::Refused(Code::Undefined),
+    }
+}
+
+// Applies an effect to the registers, the data and the tags; the status after it is the effect's.
+// Public because our own crates call it, with an effect whose granules they know to be inside.
+pub fn apply(x: &mut [u64; 32], e: Effect, bytes: &mut [u8], tags: &mut [u8])
+    requires { ⌜ Within e (length (now tags)) ⌝ }
+    requires { ⌜ length (now bytes) ≡ 16 * length (now tags) ⌝ }
+    ensures { λ _. ⌜ now (x .exit) ≡ xAfter e (now (x .entry)) ⌝ }
+    ensures { λ _. ⌜ now (bytes .exit) ≡ bytesAfter e (now (bytes .entry)) ⌝ }
+    ensures { λ _. ⌜ now (tags .exit) ≡ tagsAfter e (now (tags .entry)) ⌝ }
+{
+    let change = e.change;
+    effects::change_data(bytes, e.first, e.granules, change);
+    effects::change_tags(tags, e.first, e.granules, e.tagged, e.tag, e.second);
+    register_file::write(x, e.register, e.value);
+}
+
+// Carries out what was judged.
+fn carry(
+    x: &mut [u64; 32],
+    settings: Settings,
+    status: Status,
+    judged: Judged,
+    bytes: &mut [u8],
+    tags: &mut [u8],
+) -> Performed
+    requires { ⌜ JudgedWithin judged (length (now tags)) ⌝ }
+    requires { ⌜ length (now bytes) ≡ 16 * length (now tags) ⌝ }
+    ensures { λ r. ⌜ outcome (r .code) settings (now (x .exit)) (r .status) (now (bytes .exit)) (now (tags .exit)) ≡ planOutcome judged (stateOf settings (now (x .entry)) status (now (bytes .entry)) (now (tags .entry))) ⌝ }
+{
+    match judged {
+        Judged::Refused(code) => Performed {
+            code: code,
+            status: status,
+        },
+        Judged::Accepted(e) => {
+            apply(x, e, bytes, tags);
+            let after = e.status;
+            Performed {
+                code: Code::Done,
+                status: after,
+            }
+        }
+    }
+}
+
+// Judges a word and carries it out, on a setup that keeps the rules.
+fn perform(
+    x: &mut [u64; 32],
+    settings: Settings,
+    status: Status,
+    word: u32,
+    bytes: &mut [u8],
+    tags: &mut [u8],
+) -> Performed
+    requires { ⌜ stateOk settings status (length (now bytes)) (length (now tags)) ≡ true ⌝ }
+    ensures { λ r. ⌜ outcome (r .code) settings (now (x .exit)) (r .status) (now (bytes .exit)) (now (tags .exit)) ≡ wordOutcome true word (stateOf settings (now (x .entry)) status (now (bytes .entry)) (now (tags .entry))) ⌝ }
+{
+    let judged = judge(&*x, settings, status, &tags[..], isa::decode(word));
+    carry(x, settings, status, judged, bytes, tags)
+}
+
+// Carries out one word on a machine that has no history.
+pub fn execute(machine: Machine, word: u32, bytes: &mut [u8], tags: &mut [u8]) -> Answer
+    ensures { λ r. ⌜ executed (r .code) (r .machine) (now (bytes .exit)) (now (tags .exit)) ≡ executionOf machine word (now (bytes .entry)) (now (tags .entry)) ⌝ }
+{
+    if setup_ok(machine, bytes.len(), tags.len(), 0) {
+        let settings = machine.settings;
+        let cursor = machine.cursor;
+        let status = machine.registers.status;
+        let mut x = machine.registers.x;
+        let performed = perform(&mut x, settings, status, word, bytes, tags);
+        let code = performed.code;
+        let after = performed.status;
+        return Answer {
+            code: code,
+            machine: Machine {
+                settings: settings,
+                registers: Registers {
+                    x: x,
+                    status: after,
+                },
+                cursor: cursor,
+            },
+        };
+    }
+    Answer {
+        code: Code::Setup,
+        machine: machine,
+    }
+}

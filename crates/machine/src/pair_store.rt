@@ -1,0 +1,53 @@
+// STGP: two words and a tag stored.
+ghost use mathlib.Core.Path.{_≡_};
+ghost use Rattle.machine.specs.Plans.{stgpPlan};
+use super::Change;
+use super::Judged;
+use super::Placed;
+use super::Settings;
+use super::Status;
+use super::accesses;
+use super::pointers;
+use super::register_file;
+use super::tag_stores;
+use isa::Mode;
+
+// STGP. The tag is that of the address, not of the base register.
+pub(crate) fn judge_stgp(
+    x: &[u64; 32],
+    settings: Settings,
+    status: Status,
+    granules: usize,
+    mode: Mode,
+    t: u64,
+    t2: u64,
+    n: u64,
+    amount: u64,
+) -> Judged
+    ensures { λ r. ⌜ r ≡ stgpPlan settings (now (x .entry)) status granules mode t t2 n amount ⌝ }
+{
+    let from = register_file::x_or_sp(x, n);
+    let address = accesses::address_of(mode, from, amount);
+    match accesses::place(settings, granules, n, from, address, false) {
+        Placed::First(i) => {
+            let change = Change::Pair(
+                register_file::x_or_zero(x, t),
+                register_file::x_or_zero(x, t2),
+            );
+            let tag = pointers::tag_of(address);
+            Judged::Accepted(tag_stores::effect(
+                x,
+                settings,
+                status,
+                mode,
+                n,
+                amount,
+                false,
+                tag,
+                change,
+                i,
+            ))
+        }
+        Placed::Nowhere(code) => Judged::Refused(code),
+    }
+}

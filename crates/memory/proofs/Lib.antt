@@ -1,0 +1,5 @@
+-- Laws of the definitions, for the proofs here and in the crates above.
+pub mod Addresses
+pub mod Lists
+pub mod Stores
+mod Tests

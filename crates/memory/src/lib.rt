@@ -1,0 +1,115 @@
+// The modelled memory: the rule on its sizes and base, the granules that an address names, and the stores.
+// A store is lent the part of the data that begins at the granule. Each function with a `requires` is public because our
+// own crates call it, with granules that they know to be inside.
+ghost use mathlib.Core.Bool.{cond};
+ghost use mathlib.Core.Path.{_≡_};
+ghost use Prim.Native.Nat.{_+_, _*_, _≤_};
+ghost use lib.ListN.{length};
+ghost use lib.Seq.{sets};
+ghost use Rattle.memory.specs.Addresses.{granuleCode, granuleOf, inside, named};
+ghost use Rattle.memory.specs.Sizes.{sizesOk};
+ghost use Rattle.memory.specs.Stores.{pairBytes, savedBytes, tagBytes, zeroBytes};
+
+// The first of the granules that an address names, or none where one of them is outside.
+pub enum Granule {
+    At(usize),
+    Outside,
+}
+
+impl Granule {
+    // The code: 0 DONE, 5 OUTSIDE.
+    pub fn number(self) -> u32
+        ensures { λ r. ⌜ r ≡ granuleCode self ⌝ }
+    {
+        match self {
+            Granule::At(_) => 0,
+            Granule::Outside => 5,
+        }
+    }
+}
+
+// Whether the sizes and the base keep the rule of the setup.
+pub fn sizes_ok(base: u64, bytes: usize, granules: usize) -> bool
+    ensures { λ r. ⌜ r ≡ sizesOk base bytes granules ⌝ }
+{
+    if 65536 < granules {
+        return false;
+    }
+    if bytes != 16 * granules {
+        return false;
+    }
+    if base % 16 != 0 {
+        return false;
+    }
+    base <= 0x100_0000_0000_0000 - 16 * granules as u64
+}
+
+// Whether the granule at an address lies inside.
+fn is_inside(base: u64, granules: usize, address: u64) -> bool
+    ensures { λ r. ⌜ r ≡ inside base granules address ⌝ }
+{
+    let location = address % 0x100_0000_0000_0000;
+    if location < base {
+        return false;
+    }
+    (location - base) / 16 < granules as u64
+}
+
+// The granules that an address names, two for a pair.
+pub fn locate(base: u64, granules: usize, address: u64, pair: bool) -> Granule
+    ensures { λ r. ⌜ r ≡ granuleOf base granules address pair ⌝ }
+{
+    if !is_inside(base, granules, address) {
+        return Granule::Outside;
+    }
+    if pair {
+        if !is_inside(base, granules, std::num::wrapping_add_u64(address, 16)) {
+            return Granule::Outside;
+        }
+    }
+    Granule::At(((address % 0x100_0000_0000_0000 - base) / 16) as usize)
+}
+
+// Zeroes the data of so many granules.
+pub fn zero(part: &mut [u8], granules: usize)
+    requires { ⌜ 16 * granules ≤ length (now part) ⌝ }
+    ensures { λ _. ⌜ now (part .exit) ≡ sets (now (part .entry)) 0 (zeroBytes granules) ⌝ }
+{
+    let n = 16 * granules;
+    let mut i = 0;
+    while i < n {
+        part[i] = 0;
+        i += 1;
+    }
+}
+
+// Stores two words in a granule.
+pub fn store_pair(part: &mut [u8], low: u64, high: u64)
+    requires { ⌜ 16 ≤ length (now part) ⌝ }
+    ensures { λ _. ⌜ now (part .exit) ≡ sets (now (part .entry)) 0 (pairBytes low high) ⌝ }
+{
+    bits::store_word(part, low);
+    bits::store_word(&mut part[8..], high);
+}
+
+// Stores the words saved of one granule or of two.
+pub fn restore(part: &mut [u8], pair: bool, a: u64, b: u64, c: u64, d: u64)
+    requires { ⌜ 16 * named pair ≤ length (now part) ⌝ }
+    ensures { λ _. ⌜ now (part .exit) ≡ sets (now (part .entry)) 0 (savedBytes pair a b c d) ⌝ }
+{
+    store_pair(part, a, b);
+    if pair {
+        store_pair(&mut part[16..], c, d);
+    }
+}
+
+// Stores the tag bytes of one granule or of two.
+pub fn store_tags(tags: &mut [u8], at: usize, pair: bool, first: u8, second: u8)
+    requires { ⌜ at + named pair ≤ length (now tags) ⌝ }
+    ensures { λ _. ⌜ now (tags .exit) ≡ sets (now (tags .entry)) at (tagBytes pair first second) ⌝ }
+{
+    tags[at] = first;
+    if pair {
+        tags[at + 1] = second;
+    }
+}

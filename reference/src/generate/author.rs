@@ -1,0 +1,92 @@
+//! Writes a script and plays it as it grows, so that the next line can be
+//! chosen by the state.
+
+use crate::machine::Machine;
+use crate::player::{play, Played, Player};
+use crate::script;
+
+/// A script with what must be written for it.
+pub struct Script {
+    pub text: Vec<u8>,
+    pub played: Played,
+}
+
+impl Script {
+    /// A script that may be bad.
+    pub fn of(text: Vec<u8>) -> Script {
+        let played = play(&text);
+        Script { text, played }
+    }
+}
+
+#[derive(Default)]
+pub struct Author {
+    text: Vec<u8>,
+    player: Player,
+}
+
+impl Author {
+    /// Adds one line, which must be a right one.
+    pub fn line(&mut self, line: &str) {
+        let parsed = script::line(line.as_bytes()).expect("an author writes right lines");
+        self.text.extend_from_slice(line.as_bytes());
+        self.text.push(b'\n');
+        self.player.play(parsed);
+    }
+
+    pub fn fresh(&mut self, base: u64) {
+        self.line(&format!("fresh={base:016x}"));
+    }
+
+    /// So many tag bytes, and the data bytes that belong to them.
+    pub fn granules(&mut self, granules: u64) {
+        self.line(&format!("tags={granules:08x}"));
+        self.line(&format!("data={:08x}", 16 * granules));
+    }
+
+    pub fn register(&mut self, number: u64, value: u64) {
+        self.line(&format!("x={number:02x} {value:016x}"));
+    }
+
+    pub fn tag(&mut self, index: u64, byte: u8) {
+        self.line(&format!("tag={index:08x} {byte:02x}"));
+    }
+
+    pub fn byte(&mut self, index: u64, byte: u8) {
+        self.line(&format!("byte={index:08x} {byte:02x}"));
+    }
+
+    pub fn word(&mut self, word: u32) {
+        self.line(&format!("word={word:08x}"));
+    }
+
+    pub fn machine(&self) -> &Machine {
+        self.player.machine()
+    }
+
+    pub fn finish(self) -> Script {
+        Script {
+            text: self.text,
+            played: self.player.played(),
+        }
+    }
+}
+
+#[cfg(test)]
+mod tests {
+    use super::*;
+
+    #[test]
+    fn playing_line_by_line_is_playing_the_whole() {
+        let mut author = Author::default();
+        author.fresh(0x1000);
+        author.granules(4);
+        author.register(0, 0x0500_0000_0000_1000);
+        author.tag(3, 0xFF);
+        author.byte(63, 0x80);
+        author.word(0xD920_1400);
+        assert_eq!(author.machine().tags, [5, 0, 0, 0xFF]);
+        let script = author.finish();
+        assert_eq!(script.played.output, play(&script.text).output);
+    }
+}

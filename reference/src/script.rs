@@ -1,0 +1,313 @@
+//! The lines of a script (the manual, "Replaying a script"): what each one
+//! says, and which line is the first wrong one.
+
+use crate::words::{Form, FORMS};
+
+pub const MOST_BYTES: usize = 4_194_304;
+pub const MOST_TAGS: usize = 0x10010;
+pub const MOST_DATA: usize = 0x100100;
+
+#[derive(Debug, PartialEq)]
+pub enum Line {
+    Fresh(u64),
+    Access(bool),
+    Exclude(u16),
+    Nzcv(u8),
+    RgsrTag(u8),
+    Seed(u16),
+    Next(u64),
+    Held(u64),
+    Tags(usize),
+    Data(usize),
+    Register(u64, u64),
+    TagByte(usize, u8),
+    DataByte(usize, u8),
+    Word(u32),
+    Dump(bool),
+    Show,
+    Decode(u32),
+    Encode(&'static Form, Vec<u64>),
+    Choose(u8, u8, u16),
+    Draw(u16),
+    /// Empty, or a remark.
+    Nothing,
+}
+
+/// All lines of a script, or the number of its first wrong line from 1; the
+/// number is 0 if the script is too long.
+pub fn lines(script: &[u8]) -> Result<Vec<Line>, usize> {
+    if script.len() > MOST_BYTES {
+        return Err(0);
+    }
+    let pieces = script.split_inclusive(|&byte| byte == b'\n');
+    let numbered = (1..).zip(pieces);
+    numbered
+        .map(|(number, piece)| ended(piece).and_then(line).ok_or(number))
+        .collect()
+}
+
+fn ended(piece: &[u8]) -> Option<&[u8]> {
+    piece.strip_suffix(b"\n")
+}
+
+/// What one line says, without its line feed; nothing if it is a wrong line.
+pub fn line(text: &[u8]) -> Option<Line> {
+    if text.is_empty() || text[0] == b'#' {
+        return Some(Line::Nothing);
+    }
+    if text == b"show" {
+        return Some(Line::Show);
+    }
+    let sign = text.iter().position(|&byte| byte == b'=')?;
+    let (key, values) = (&text[..sign], &text[sign + 1..]);
+    setting(key, values)
+        .or_else(|| call(key, values))
+        .or_else(|| encoding(key, values))
+}
+
+fn setting(key: &[u8], values: &[u8]) -> Option<Line> {
+    Some(match key {
+        b"fresh" => Line::Fresh(number(values, 16)?),
+        b"access" => Line::Access(yes_or_no(values)?),
+        b"exclude" => Line::Exclude(number(values, 4)? as u16),
+        b"nzcv" => Line::Nzcv(number(values, 2)? as u8),
+        b"rgsr" => Line::RgsrTag(number(values, 2)? as u8),
+        b"seed" => Line::Seed(number(values, 4)? as u16),
+        b"next" => Line::Next(number(values, 16)?),
+        b"held" => Line::Held(number(values, 16)?),
+        b"tags" => Line::Tags(below(number(values, 8)?, MOST_TAGS + 1)?),
+        b"data" => Line::Data(below(number(values, 8)?, MOST_DATA + 1)?),
+        b"x" => {
+            let [register, value] = numbers(values, [2, 16])?;
+            Line::Register(below(register, 32)? as u64, value)
+        }
+        b"tag" => {
+            let [index, byte] = numbers(values, [8, 2])?;
+            Line::TagByte(below(index, MOST_TAGS)?, byte as u8)
+        }
+        b"byte" => {
+            let [index, byte] = numbers(values, [8, 2])?;
+            Line::DataByte(below(index, MOST_DATA)?, byte as u8)
+        }
+        _ => return None,
+    })
+}
+
+fn call(key: &[u8], values: &[u8]) -> Option<Line> {
+    Some(match key {
+        b"word" => Line::Word(number(values, 8)? as u32),
+        b"dump" => Line::Dump(yes_or_no(values)?),
+        b"decode" => Line::Decode(number(values, 8)? as u32),
+        b"choose" => {
+            let [start, offset, mask] = numbers(values, [1, 1, 4])?;
+            Line::Choose(start as u8, offset as u8, mask as u16)
+        }
+        b"draw" => Line::Draw(number(values, 4)? as u16),
+        _ => return None,
+    })
+}
+
+/// A form's line. The mode, if the form has one, comes before its fields.
+fn encoding(key: &[u8], values: &[u8]) -> Option<Line> {
+    let shape = FORMS.iter().find(|form| form.key().as_bytes() == key)?;
+    let mut digits = vec![16; crate::encoder::fields(shape.instruction).len()];
+    if shape.mode.is_some() {
+        digits.insert(0, 1);
+    }
+    let mut values = list(values, &digits)?;
+    let mode = shape.mode.map(|_| values.remove(0));
+    let wanted = |form: &&Form| {
+        form.instruction == shape.instruction && form.mode.map(|mode| mode as u64) == mode
+    };
+    Some(Line::Encode(FORMS.iter().find(wanted)?, values))
+}
+
+fn numbers<const COUNT: usize>(text: &[u8], digits: [usize; COUNT]) -> Option<[u64; COUNT]> {
+    list(text, &digits)?.try_into().ok()
+}
+
+/// Numbers with one space between two of them, as many as digits are given.
+fn list(text: &[u8], digits: &[usize]) -> Option<Vec<u64>> {
+    let parts: Vec<&[u8]> = text.split(|&byte| byte == b' ').collect();
+    if parts.len() != digits.len() {
+        return None;
+    }
+    let pairs = parts.iter().zip(digits);
+    pairs.map(|(part, &digits)| number(part, digits)).collect()
+}
+
+/// A number in lower-case hexadecimal with exactly so many digits, at most 16.
+fn number(text: &[u8], digits: usize) -> Option<u64> {
+    if text.len() != digits {
+        return None;
+    }
+    text.iter().try_fold(0, |number, &byte| {
+        let digit = match byte {
+            b'0'..=b'9' => byte - b'0',
+            b'a'..=b'f' => byte - b'a' + 10,
+            _ => return None,
+        };
+        Some(number << 4 | u64::from(digit))
+    })
+}
+
+fn yes_or_no(text: &[u8]) -> Option<bool> {
+    match text {
+        b"0" => Some(false),
+        b"1" => Some(true),
+        _ => None,
+    }
+}
+
+fn below(number: u64, limit: usize) -> Option<usize> {
+    let number = usize::try_from(number).ok()?;
+    (number < limit).then_some(number)
+}
+
+#[cfg(test)]
+mod tests {
+    use super::*;
+
+    const RIGHT: [&str; 32] = [
+        "",
+        "#",
+        "#show \r\0",
+        "fresh=00000000000abcde",
+        "access=0",
+        "access=1",
+        "exclude=ffff",
+        "nzcv=ff",
+        "rgsr=10",
+        "seed=0000",
+        "next=ffffffffffffffff",
+        "held=0000000000000001",
+        "tags=00010010",
+        "data=00100100",
+        "x=00 0123456789abcdef",
+        "x=1f 0123456789abcdef",
+        "tag=0001000f ff",
+        "byte=001000ff 00",
+        "word=ffffffff",
+        "dump=0",
+        "dump=1",
+        "show",
+        "decode=00000000",
+        "choose=f 0 ffff",
+        "draw=00ff",
+        "addg=ffffffffffffffff 0000000000000000 0000000000000010 00000000000000ff",
+        "subps=0000000000000000 0000000000000000 0000000000000000",
+        "ldg=0000000000000000 0000000000000000 0000000000000000",
+        "stg=1 0000000000000000 0000000000000000 0000000000000000",
+        "stz2g=2 0000000000000000 0000000000000000 0000000000000000",
+        "st2g=3 0000000000000000 0000000000000000 0000000000000000",
+        "stgp=3 0000000000000000 0000000000000000 0000000000000000 0000000000000000",
+    ];
+
+    #[test]
+    fn right_lines() {
+        for text in RIGHT {
+            assert!(line(text.as_bytes()).is_some(), "{text}");
+        }
+    }
+
+    #[test]
+    fn a_right_line_with_anything_at_an_end_is_wrong() {
+        for text in RIGHT
+            .iter()
+            .filter(|text| !text.is_empty() && !text.starts_with('#'))
+        {
+            for more in [" ", "\r", "\0", "0", "=", "\t", "#"] {
+                assert_eq!(
+                    line(format!("{text}{more}").as_bytes()),
+                    None,
+                    "{text}{more:?}"
+                );
+            }
+            for more in [" ", "\r", "\0", "=", "\t", "0"] {
+                assert_eq!(
+                    line(format!("{more}{text}").as_bytes()),
+                    None,
+                    "{more:?}{text}"
+                );
+            }
+            assert_eq!(line(&text.as_bytes()[..text.len() - 1]), None, "{text} cut");
+        }
+    }
+
+    #[test]
+    fn wrong_lines() {
+        for text in [
+            " ",
+            "\r",
+            " #",
+            "=",
+            "show=",
+            "Show",
+            "fresh",
+            "fresh=",
+            "FRESH=0000000000000000",
+            "fresh=000000000000000A",
+            "fresh=000000000000000g",
+            "fresh=+000000000000000",
+            "fresh=0x00000000000000",
+            "access=2",
+            "access=f",
+            "access=00",
+            "dump=2",
+            "tags=00010011",
+            "tags=ffffffff",
+            "data=00100101",
+            "tag=00010010 00",
+            "byte=00100100 00",
+            "x=20 0000000000000000",
+            "x=00  0000000000000000",
+            "x=000000000000000000",
+            "x=00\t0000000000000000",
+            "choose=00000",
+            "stg=0 0000000000000000 0000000000000000 0000000000000000",
+            "stg=4 0000000000000000 0000000000000000 0000000000000000",
+            "stg=01 0000000000000000 0000000000000000 0000000000000000",
+            "ldg=1 0000000000000000 0000000000000000 0000000000000000",
+            "addg=0000000000000000 0000000000000000 0000000000000000",
+            "stgp=0000000000000000 0000000000000000 0000000000000000 0000000000000000",
+        ] {
+            assert_eq!(line(text.as_bytes()), None, "{text:?}");
+        }
+    }
+
+    #[test]
+    fn modes_name_forms() {
+        for (mode, name) in [(1, "STGP post"), (3, "STGP pre"), (2, "STGP offset")] {
+            let zero = "0000000000000000";
+            let text = format!("stgp={mode} {zero} {zero} {zero} {zero}");
+            let Some(Line::Encode(form, values)) = line(text.as_bytes()) else {
+                panic!("{text} is a form's line");
+            };
+            assert_eq!((form.name, values), (name, vec![0; 4]));
+        }
+    }
+
+    #[test]
+    fn the_first_wrong_line_is_numbered() {
+        assert_eq!(lines(b""), Ok(vec![]));
+        assert_eq!(
+            lines(b"\n#\nshow\n"),
+            Ok(vec![Line::Nothing, Line::Nothing, Line::Show])
+        );
+        assert_eq!(lines(b"shwo\nshow\n"), Err(1));
+        assert_eq!(lines(b"\n#\n\r\nshow"), Err(3));
+        assert_eq!(lines(b"show\nshow"), Err(2));
+        assert_eq!(lines(b"show\n#"), Err(2));
+        assert_eq!(lines(b"#"), Err(1));
+    }
+
+    #[test]
+    fn the_longest_script() {
+        let mut script = vec![b'#'; MOST_BYTES];
+        assert_eq!(lines(&script), Err(1));
+        script[MOST_BYTES - 1] = b'\n';
+        assert_eq!(lines(&script), Ok(vec![Line::Nothing]));
+        script.push(b'\n');
+        assert_eq!(lines(&script), Err(0));
+    }
+}
