@@ -63,6 +63,10 @@ impl Player {
         &self.machine
     }
 
+    pub fn output(&self) -> &[u8] {
+        &self.output
+    }
+
     pub fn played(self) -> Played {
         Played {
             output: self.output,

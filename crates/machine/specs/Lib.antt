@@ -12,3 +12,4 @@ pub mod Words
 pub mod Execution
 pub mod Effects
 pub mod Plans
+pub mod Edges

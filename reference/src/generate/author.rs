@@ -64,6 +64,11 @@ impl Author {
         self.player.machine()
     }
 
+    /// What must be written for the lines so far.
+    pub fn output(&self) -> &[u8] {
+        self.player.output()
+    }
+
     pub fn finish(self) -> Script {
         Script {
             text: self.text,

@@ -4,9 +4,9 @@
 use super::author::{Author, Script};
 use super::operands::{address, any_word, base, mask, pointer, register, top_byte, value};
 use super::random::Random;
-use crate::encoder::{encode, fields, RN, RT};
+use crate::encoder::{encode, fields, RM, RN, RT};
 use crate::machine::MOST_GRANULES;
-use crate::words::{form_of, Form, Instruction, Mode, FORMS};
+use crate::words::{Form, Instruction, Mode, FORMS};
 
 /// Setups in a script, and words on each.
 const SETUPS: usize = 250;
@@ -164,13 +164,13 @@ fn set_near_pointer(author: &mut Author, random: &mut Random, word: u32) {
         2 => pointer(random, author.machine()),
         _ => return,
     };
-    author.register(crate::encoder::RM.of(word), value);
+    author.register(RM.of(word), value);
 }
 
 fn set_mask(author: &mut Author, random: &mut Random, word: u32) {
     if !random.one_in(4) {
         let above = random.pick(&[0, random.bits() << 16, 1 << 16, u64::MAX << 16]);
-        author.register(crate::encoder::RM.of(word), above | u64::from(mask(random)));
+        author.register(RM.of(word), above | u64::from(mask(random)));
     }
 }
 
@@ -181,7 +181,7 @@ fn set_base_register(author: &mut Author, random: &mut Random, form: &Form, word
         return;
     }
     let address = address(random, author.machine());
-    let amount = fields(form.instruction)[fields(form.instruction).len() - 1].of(word);
+    let amount = fields(form.instruction).last().map_or(0, |field| field.of(word));
     let unmoved = match form.mode {
         Some(Mode::Post) => address,
         _ => address.wrapping_sub(amount),
