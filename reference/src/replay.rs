@@ -79,9 +79,138 @@ fn complaint(program: &Path, script: &Script) -> Option<String> {
     }
 }
 
-/// Counts by kind of script, in the order of the kinds' first jobs.
+/// Counts of the scripts of one kind.
 #[derive(Default)]
-struct Summary {
-    kinds: BTreeMap<usize, (&'static str, u64, u64, u64, Tally)>,
-    all: Tally,
+struct Counts {
+    scripts: u64,
+    bytes_in: usize,
+    bytes_out: usize,
+    tally: Tally,
+}
+
+/// What was compared and found equal.
+#[derive(Default)]
+pub struct Summary {
+    kinds: BTreeMap<&'static str, Counts>,
+}
+
+impl Summary {
+    fn count(&mut self, job: &Job, script: &Script) {
+        let counts = self.kinds.entry(job.kind).or_default();
+        counts.scripts += 1;
+        counts.bytes_in += script.text.len();
+        counts.bytes_out += script.played.output.len();
+        counts.tally.add(&script.played.tally);
+    }
+}
+
+impl fmt::Display for Summary {
+    fn fmt(&self, out: &mut fmt::Formatter) -> fmt::Result {
+        let mut all = Tally::default();
+        for (kind, counts) in &self.kinds {
+            let Counts {
+                scripts,
+                bytes_in,
+                bytes_out,
+                tally,
+            } = counts;
+            writeln!(out, "{kind}: {scripts} scripts ({bytes_in} bytes), {bytes_out} bytes of output equal; {tally}")?;
+            all.add(tally);
+        }
+        writeln!(out, "all: {all}")?;
+        write!(out, "{}", all.by_form())
+    }
+}
+
+/// A script on which the program failed.
+pub struct Failure {
+    kind: &'static str,
+    number: u64,
+    seed: u64,
+    complaint: String,
+    file: PathBuf,
+}
+
+impl fmt::Display for Failure {
+    fn fmt(&self, out: &mut fmt::Formatter) -> fmt::Result {
+        let file = self.file.display();
+        writeln!(out, "{}, script {}, seed {}: {}", self.kind, self.number, self.seed, self.complaint)?;
+        write!(out, "the script: {file}")
+    }
+}
+
+/// Puts the script where it can be tried again.
+fn keep(job: &Job, seed: u64, script: &Script, complaint: String) -> Failure {
+    let kind = job.kind.replace(' ', "-");
+    let name = format!("reference-{kind}-{}-seed-{seed}.script", job.number);
+    let file = env::temp_dir().join(name);
+    if let Err(error) = fs::write(&file, &script.text) {
+        eprintln!("{} cannot be written: {error}", file.display());
+    }
+    Failure {
+        kind: job.kind,
+        number: job.number,
+        seed,
+        complaint,
+        file,
+    }
+}
+
+/// Tries a program on all scripts. Of several failures the one of the first
+/// job is given.
+pub fn replay(program: &Path, jobs: &[Job], seed: u64, threads: usize) -> Result<Summary, Failure> {
+    let next = AtomicUsize::new(0);
+    let summary = Mutex::new(Summary::default());
+    let first_failure: Mutex<Option<(usize, Failure)>> = Mutex::new(None);
+    let work = || {
+        while let Some((place, job)) = take(jobs, &next) {
+            let script = job.script(seed);
+            match complaint(program, &script) {
+                None => summary.lock().expect("no thread panics").count(job, &script),
+                Some(complaint) => {
+                    // No thread begins another job; all earlier ones have begun.
+                    next.store(jobs.len(), Ordering::SeqCst);
+                    let mut first = first_failure.lock().expect("no thread panics");
+                    if first.as_ref().is_none_or(|(earliest, _)| place < *earliest) {
+                        *first = Some((place, keep(job, seed, &script, complaint)));
+                    }
+                }
+            }
+        }
+    };
+    thread::scope(|scope| {
+        (0..threads).for_each(|_| drop(scope.spawn(work)));
+    });
+    match first_failure.into_inner().expect("no thread panics") {
+        Some((_, failure)) => Err(failure),
+        None => Ok(summary.into_inner().expect("no thread panics")),
+    }
+}
+
+fn take<'jobs>(jobs: &'jobs [Job], next: &AtomicUsize) -> Option<(usize, &'jobs Job)> {
+    let place = next.fetch_add(1, Ordering::SeqCst);
+    Some((place, jobs.get(place)?))
+}
+
+#[cfg(test)]
+mod tests {
+    use super::*;
+
+    fn differing(line: usize, reference: Option<&str>, program: Option<&str>) -> Option<Differing> {
+        Some(Differing {
+            line,
+            reference: reference.map(str::to_string),
+            program: program.map(str::to_string),
+        })
+    }
+
+    #[test]
+    fn the_first_differing_line_is_found() {
+        assert_eq!(first_difference(b"", b""), None);
+        assert_eq!(first_difference(b"a\nb\n", b"a\nb\n"), None);
+        assert_eq!(first_difference(b"a\nb\n", b"a\nc\n"), differing(2, Some("b\\n"), Some("c\\n")));
+        assert_eq!(first_difference(b"a\nb\n", b"a\n"), differing(2, Some("b\\n"), None));
+        assert_eq!(first_difference(b"a\n", b"a\nb\n"), differing(2, None, Some("b\\n")));
+        assert_eq!(first_difference(b"a\n", b"a"), differing(1, Some("a\\n"), Some("a")));
+    }
 }

@@ -1,14 +1,14 @@
 -- The rows P1 to P14 of document 01, "Numbers at the edges", and one statement about them all.
 use Prim.Native.Nat.{ℕ}
 use mathlib.Core.Path.{_≡_}
-use mathlib.Core.Bool.{Bool, true}
+use mathlib.Core.Bool.{true}
 use mathlib.Core.List.{List, [], _∷_, _++_}
-use lib.ListN.{length, replicate, set}
+use lib.ListN.{replicate, set}
 use Rattle.bits.specs.LittleEndian.{bytesOf}
 use Rattle.machine.specs.declared.Code.{Code}
 use Rattle.machine.specs.declared.Code.the-variants.{Done, SpAlign, Align, Outside}
 use Rattle.machine.specs.State.{State, stateOf, withX, withStatus, withBytes, withTags}
-use Rattle.machine.specs.Setup.{stateOk}
+use Rattle.machine.specs.Setup.{sound}
 use Rattle.machine.specs.Words.{Outcome, wordOutcome}
 
 -- a word on a given state, its code and the state after it
@@ -87,10 +87,6 @@ rows x1 x2 =
     ∷ row 0x9ADF1020 p14 Done
     (resultIn 0 0x0100000000001000 (withStatus (record { nzcv = 0; rgsr = 1; seed = 0x1000 }) p14))
     ∷ []
-
--- whether a state keeps the rules of the setup
-abbrev pub sound : State → Bool
-sound s = stateOk (s .settings) (s .registers .status) (length (s .bytes)) (length (s .tags))
 
 -- the word of a row, on its given state, has its code and its result
 abbrev pub RowHolds : Row → Type 0

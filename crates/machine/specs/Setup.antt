@@ -19,6 +19,10 @@ statusOk status = leb (status .nzcv) 15 && leb (status .rgsr) 15
 unfoldable pub stateOk : Settings → Status → ℕ → ℕ → Bool
 stateOk settings status bytes g = sizesOk (settings .base) bytes g && statusOk status
 
+-- a state that keeps them
+abbrev pub sound : State → Bool
+sound s = stateOk (s .settings) (s .registers .status) (length (s .bytes)) (length (s .tags))
+
 -- with c slots: next < c and held ≤ c, or both 0 if c = 0
 unfoldable pub cursorOk : ℕ → Cursor → Bool
 cursorOk c cursor = cond (eqb c 0) (eqb (cursor .next) 0 && eqb (cursor .held) 0) (ltb (cursor .next) c && leb (cursor .held) c)

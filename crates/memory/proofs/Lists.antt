@@ -1,6 +1,6 @@
 -- Laws of `sets`, a run of stores: in a part, one run after another, and a run taken back. Assumes nothing.
 use Prim.Native.Nat.{ℕ, zero, suc, _+_, _-_, _≤_, zero-le}
-use mathlib.Core.Path.{_≡_, refl, sym, ap, _∙_}
+use mathlib.Core.Path.{_≡_, refl, _∙_}
 use mathlib.Core.List.{List, [], _∷_, _++_, append-nil}
 use native.Mathlib.Nat.{add-zero, zero-add, add-suc, suc-add, le-refl, not-suc-le-zero, le-of-suc-le-suc}
 use lib.ListN.{length, take, drop, set, replicate, length-drop, drop-of-length-le, length-replicate, replicate-append-replicate}
@@ -18,8 +18,8 @@ module _ {A : Type 0} where
   -- a run of stores from a on is one from 0 on in the part that starts at a
   pub sets-part : (a : ℕ) (l vs : List A) → take a l ++ sets (drop a l) 0 vs ≡ sets l a vs
   sets-part zero l vs = refl
-  sets-part (suc a) [] vs = sets-nil vs 0 ∙ sym (sets-nil vs (suc a))
-  sets-part (suc a) (x ∷ l) vs = ap (λ (r : List A). x ∷ r) (sets-part a l vs) ∙ sym (sets-cons vs x l a)
+  sets-part (suc a) [] vs = rw (sets-nil vs 0, sets-nil vs (suc a))
+  sets-part (suc a) (x ∷ l) vs = rw (sets-cons vs x l a, sets-part a l vs)
 
   -- what a part that starts at a comes back as, lent for a run of stores
   pub back-part : (a : ℕ) (l ys vs : List A) → ys ≡ sets (take (length l - a) (drop a l)) 0 vs
@@ -41,23 +41,15 @@ module _ {A : Type 0} where
 
   -- a value stored once more
   pub sets-more : (l : List A) (i : ℕ) (v : A) → set (sets l 0 (replicate i v)) i v ≡ sets l 0 (replicate (i + 1) v)
-  sets-more l i v =
-      ap (λ (k : ℕ). set (sets l 0 (replicate i v)) k v) (sym (zero-add (length (replicate i v)) ∙ length-replicate i v))
-      ∙ sym (sets-append (replicate i v) l 0 (v ∷ []))
-      ∙ ap (sets l 0) (replicate-append-replicate i 1 v)
+  sets-more l i v = rw (← replicate-append-replicate i 1 v, sets-append (replicate i v) l 0 (v ∷ []), zero-add, length-replicate)
 
   -- a run taken back by storing what was there, and perhaps more of it
   pub sets-back : (i m : ℕ) (l vs : List A) → length vs ≤ m → sets (sets l i vs) i (take m (drop i l)) ≡ l
-  sets-back zero m [] vs h = rw (sets-nil vs 0) (sets-nil (take m []) 0)
+  sets-back i m [] vs h = rw (sets-nil vs i) (sets-nil (take m (drop i [])) i)
   sets-back zero zero (x ∷ l) [] h = refl
   sets-back zero zero (x ∷ l) (v ∷ vs) h = absurd (not-suc-le-zero h)
-  sets-back zero (suc m) (x ∷ l) [] h = sets-cons (take m l) x l 0 ∙ ap (λ (r : List A). x ∷ r) (sets-back zero m l [] zero-le)
+  sets-back zero (suc m) (x ∷ l) [] h = rw (sets-cons (take m l) x l 0, sets-back zero m l [] zero-le)
   sets-back zero (suc m) (x ∷ l) (v ∷ vs) h =
-      ap (λ (r : List A). sets r 0 (x ∷ take m l)) (sets-cons vs v l 0)
-      ∙ sets-cons (take m l) x (sets l 0 vs) 0
-      ∙ ap (λ (r : List A). x ∷ r) (sets-back zero m l vs (le-of-suc-le-suc h))
-  sets-back (suc i) m [] vs h = rw (sets-nil vs (suc i)) (sets-nil (take m []) (suc i))
+      rw (sets-cons vs v l 0, sets-cons (take m l) x (sets l 0 vs) 0, sets-back zero m l vs (le-of-suc-le-suc h))
   sets-back (suc i) m (x ∷ l) vs h =
-      ap (λ (r : List A). sets r (suc i) (take m (drop i l))) (sets-cons vs x l i)
-      ∙ sets-cons (take m (drop i l)) x (sets l i vs) i
-      ∙ ap (λ (r : List A). x ∷ r) (sets-back i m l vs h)
+      rw (sets-cons vs x l i, sets-cons (take m (drop i l)) x (sets l i vs) i, sets-back i m l vs h)

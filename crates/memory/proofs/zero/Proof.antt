@@ -1,9 +1,9 @@
 -- `memory::zero` meets its contract. The loop's invariant: as many zeros are stored as bytes are passed. The measure is
 -- what is left of them. Assumes nothing.
 use Prim.Native.Nat.{_-_, _*_, _≤_}
-use mathlib.Core.Path.{_≡_, refl, ap, _∙_}
+use mathlib.Core.Path.{_≡_, refl}
 use native.Mathlib.Omega.{arith}
-use lib.ListN.{length, replicate}
+use lib.ListN.{replicate}
 use lib.Seq.{sets, length-sets}
 use Rattle.memory.proofs.Lists.{sets-more}
 use Rattle.memory.proofs.zero.Statement.{statement}
