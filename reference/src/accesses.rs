@@ -41,7 +41,7 @@ impl Machine {
             Some(Mode::Post) => unmoved,
             _ => moved,
         };
-        if address % 16 != 0 {
+        if !address.is_multiple_of(16) {
             return Code::Align;
         }
         let Some(granules) = self.named_granules(form.instruction, address) else {
@@ -57,7 +57,7 @@ impl Machine {
     }
 
     fn misaligned_sp(&self, word: u32) -> bool {
-        RN.of(word) == SP && self.sp % 16 != 0
+        RN.of(word) == SP && !self.sp.is_multiple_of(16)
     }
 
     /// The places of the granules that a store names, if all are modelled.

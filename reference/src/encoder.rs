@@ -67,8 +67,8 @@ impl Field {
     fn placed(self, value: u64) -> Option<u32> {
         let raw = match self.kind {
             Kind::Register | Kind::TagOffset => value,
-            Kind::Amount if value % GRANULE == 0 => value / GRANULE,
-            Kind::SignedAmount if value % GRANULE == 0 => {
+            Kind::Amount if value.is_multiple_of(GRANULE) => value / GRANULE,
+            Kind::SignedAmount if value.is_multiple_of(GRANULE) => {
                 // Moved up by half the range, the range begins at 0.
                 let lowest = self.half() * GRANULE;
                 let from_lowest = value.wrapping_add(lowest) / GRANULE;

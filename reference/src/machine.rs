@@ -48,7 +48,7 @@ impl Machine {
     pub fn well_formed(&self) -> bool {
         self.tags.len() <= MOST_GRANULES
             && self.data.len() == 16 * self.tags.len()
-            && self.base % 16 == 0
+            && self.base.is_multiple_of(16)
             && self.end() <= 1 << 56
             && self.nzcv <= 15
             && self.rgsr_tag <= 15

@@ -1,4 +1,4 @@
-//! Compares the reference with the library or a program under test, one
+//! Compares the reference with the library or with a program under test, one
 //! subcommand for each thing compared. Exit status: 0 all equal, 1 a
 //! difference, 2 misuse.
 
@@ -11,7 +11,7 @@ use std::path::Path;
 use std::process::ExitCode;
 use std::thread;
 
-use reference::compare::{self, Difference};
+use reference::compare;
 use reference::generate::jobs;
 use reference::player::play;
 use reference::replay::replay;
@@ -21,15 +21,20 @@ usage: reference tag-choice | word-code
        reference replay PROGRAM [--long] [--seed NUMBER]
        reference play <SCRIPT";
 const ALL_WORDS: u64 = 1 << 32;
-/// How much more often a long replay does the random parts.
+/// A replay repeats the same scripts unless it is told another seed.
+const USUAL_SEED: u64 = 1;
+/// How much more of the random scripts a long replay has.
 const LONG: u64 = 20;
+
+/// What to print: a summary, or a difference.
+type Outcome = Result<String, String>;
 
 fn main() -> ExitCode {
     let arguments: Vec<OsString> = env::args_os().skip(1).collect();
     let outcome = match arguments.as_slice() {
-        [name] if name == "tag-choice" => told(tag_choice()),
-        [name] if name == "word-code" => told(word_code()),
-        [name] if name == "play" => play_standard_input(),
+        [name] if name == "tag-choice" => tag_choice(),
+        [name] if name == "word-code" => word_code(),
+        [name] if name == "play" => return play_standard_input(),
         [name, program, options @ ..] if name == "replay" => match replay_options(options) {
             Some((times, seed)) => replay_scripts(Path::new(program), times, seed),
             None => return misuse(),
@@ -37,12 +42,12 @@ fn main() -> ExitCode {
         _ => return misuse(),
     };
     match outcome {
-        Ok(text) => {
-            print!("{text}");
+        Ok(summary) => {
+            println!("{summary}");
             ExitCode::SUCCESS
         }
-        Err(text) => {
-            print!("{text}");
+        Err(difference) => {
+            println!("{difference}");
             ExitCode::FAILURE
         }
     }
@@ -53,19 +58,56 @@ fn misuse() -> ExitCode {
     ExitCode::from(2)
 }
 
-fn told(outcome: Result<String, Difference>) -> Result<String, String> {
-    outcome.map_err(|difference| difference.to_string())
+fn threads() -> usize {
+    thread::available_parallelism().map_or(1, |cores| cores.get())
 }
 
-fn tag_choice() -> Result<String, Difference> {
-    let cases = compare::tag_choice(library::choose_tag)?;
+fn tag_choice() -> Outcome {
+    let cases = compare::tag_choice(library::choose_tag).map_err(|found| found.to_string())?;
     Ok(format!("tag choice: {cases} cases, all equal"))
 }
 
-fn word_code() -> Result<String, Difference> {
-    let threads = thread::available_parallelism().map_or(1, |cores| cores.get() as u64);
-    let defined = compare::word_codes(0..ALL_WORDS, threads, library::word_code)?;
+fn word_code() -> Outcome {
+    let defined = compare::word_codes(0..ALL_WORDS, threads() as u64, library::word_code)
+        .map_err(|found| found.to_string())?;
     Ok(format!(
         "word code: {ALL_WORDS} words, all equal ({defined} defined)"
     ))
+}
+
+/// How often the random scripts are made, and from which seed.
+fn replay_options(options: &[OsString]) -> Option<(u64, u64)> {
+    match options {
+        [] => Some((1, USUAL_SEED)),
+        [long, others @ ..] if long == "--long" => {
+            let (_, seed) = replay_options(others)?;
+            Some((LONG, seed))
+        }
+        [name, seed, others @ ..] if name == "--seed" => {
+            let (times, _) = replay_options(others)?;
+            Some((times, seed.to_str()?.parse().ok()?))
+        }
+        _ => None,
+    }
+}
+
+fn replay_scripts(program: &Path, times: u64, seed: u64) -> Outcome {
+    println!("replay of {}, seed {seed}", program.display());
+    let summary = replay(program, &jobs(times), seed, threads());
+    summary
+        .map(|summary| summary.to_string())
+        .map_err(|failure| failure.to_string())
+}
+
+fn play_standard_input() -> ExitCode {
+    let mut script = Vec::new();
+    let read = io::stdin().read_to_end(&mut script);
+    let written = read.and_then(|_| io::stdout().write_all(&play(&script).output));
+    match written {
+        Ok(()) => ExitCode::SUCCESS,
+        Err(error) => {
+            eprintln!("{error}");
+            ExitCode::FAILURE
+        }
+    }
 }

@@ -1,6 +1,7 @@
 //! Plays scripts (the manual, "Replaying a script").
 
-use std::io::Write;
+use std::fmt;
+use std::io::{self, Write};
 
 use crate::code::Code;
 use crate::draw::draw;
@@ -20,7 +21,7 @@ pub struct Played {
 pub fn play(script: &[u8]) -> Played {
     match lines(script) {
         Ok(lines) => {
-            let mut player = Player::new();
+            let mut player = Player::default();
             lines.into_iter().for_each(|line| player.play(line));
             player.played()
         }
@@ -42,13 +43,7 @@ pub struct Player {
 }
 
 impl Default for Player {
-    fn default() -> Self {
-        Self::new()
-    }
-}
-
-impl Player {
-    pub fn new() -> Player {
+    fn default() -> Player {
         Player {
             machine: Machine::fresh(0),
             kept_tags: vec![0; MOST_TAGS],
@@ -58,7 +53,9 @@ impl Player {
             tally: Tally::default(),
         }
     }
+}
 
+impl Player {
     pub fn machine(&self) -> &Machine {
         &self.machine
     }
@@ -143,37 +140,36 @@ impl Player {
 
     /// Writes the state as the lines that would set it up.
     fn show(&mut self) {
-        let machine = &self.machine;
-        let mut text = Vec::new();
-        let mut write = |line: std::fmt::Arguments| writeln!(text, "{line}").expect("memory");
-        write(format_args!("fresh={:016x}", machine.base));
-        write(format_args!("access={}", u8::from(machine.access)));
-        write(format_args!("exclude={:04x}", machine.exclude));
-        write(format_args!("nzcv={:02x}", machine.nzcv));
-        write(format_args!("rgsr={:02x}", machine.rgsr_tag));
-        write(format_args!("seed={:04x}", machine.seed));
-        write(format_args!("next={:016x}", machine.next));
-        write(format_args!("held={:016x}", machine.held));
-        write(format_args!("tags={:08x}", machine.tags.len()));
-        write(format_args!("data={:08x}", machine.data.len()));
-        for number in 0..=SP {
-            let value = machine.register_or_sp(number);
-            if value != 0 {
-                write(format_args!("x={number:02x} {value:016x}"));
-            }
-        }
-        for (key, bytes) in [("tag", &machine.tags), ("byte", &machine.data)] {
-            for (index, byte) in bytes.iter().enumerate().filter(|(_, &byte)| byte != 0) {
-                write(format_args!("{key}={index:08x} {byte:02x}"));
-            }
-        }
         self.tally.states += 1;
-        self.output.append(&mut text);
+        write_state(&self.machine, &mut self.output).expect("writing to memory");
     }
 
-    fn write(&mut self, line: std::fmt::Arguments) {
-        writeln!(self.output, "{line}").expect("memory takes every line");
+    fn write(&mut self, line: fmt::Arguments) {
+        writeln!(self.output, "{line}").expect("writing to memory");
     }
+}
+
+fn write_state(machine: &Machine, out: &mut Vec<u8>) -> io::Result<()> {
+    writeln!(out, "fresh={:016x}", machine.base)?;
+    writeln!(out, "access={}", u8::from(machine.access))?;
+    writeln!(out, "exclude={:04x}", machine.exclude)?;
+    writeln!(out, "nzcv={:02x}", machine.nzcv)?;
+    writeln!(out, "rgsr={:02x}", machine.rgsr_tag)?;
+    writeln!(out, "seed={:04x}", machine.seed)?;
+    writeln!(out, "next={:016x}", machine.next)?;
+    writeln!(out, "held={:016x}", machine.held)?;
+    writeln!(out, "tags={:08x}", machine.tags.len())?;
+    writeln!(out, "data={:08x}", machine.data.len())?;
+    let registers = (0..=SP).map(|number| (number, machine.register_or_sp(number)));
+    for (number, value) in registers.filter(|&(_, value)| value != 0) {
+        writeln!(out, "x={number:02x} {value:016x}")?;
+    }
+    for (key, bytes) in [("tag", &machine.tags), ("byte", &machine.data)] {
+        for (index, byte) in bytes.iter().enumerate().filter(|(_, &byte)| byte != 0) {
+            writeln!(out, "{key}={index:08x} {byte:02x}")?;
+        }
+    }
+    Ok(())
 }
 
 /// A form's line: its key, its mode if it has one, and its fields.

@@ -32,7 +32,10 @@ pub fn first_difference(reference: &[u8], program: &[u8]) -> Option<Differing> {
         lines.map(|line| line.escape_ascii().to_string()).collect()
     };
     let (reference, program) = (lines(reference), lines(program));
-    let alike = reference.iter().zip(&program).take_while(|(one, other)| one == other);
+    let alike = reference
+        .iter()
+        .zip(&program)
+        .take_while(|(one, other)| one == other);
     let place = alike.count();
     Some(Differing {
         line: place + 1,
@@ -134,7 +137,11 @@ pub struct Failure {
 impl fmt::Display for Failure {
     fn fmt(&self, out: &mut fmt::Formatter) -> fmt::Result {
         let file = self.file.display();
-        writeln!(out, "{}, script {}, seed {}: {}", self.kind, self.number, self.seed, self.complaint)?;
+        writeln!(
+            out,
+            "{}, script {}, seed {}: {}",
+            self.kind, self.number, self.seed, self.complaint
+        )?;
         write!(out, "the script: {file}")
     }
 }
@@ -166,7 +173,10 @@ pub fn replay(program: &Path, jobs: &[Job], seed: u64, threads: usize) -> Result
         while let Some((place, job)) = take(jobs, &next) {
             let script = job.script(seed);
             match complaint(program, &script) {
-                None => summary.lock().expect("no thread panics").count(job, &script),
+                None => summary
+                    .lock()
+                    .expect("no thread panics")
+                    .count(job, &script),
                 Some(complaint) => {
                     // No thread begins another job; all earlier ones have begun.
                     next.store(jobs.len(), Ordering::SeqCst);
@@ -208,9 +218,21 @@ mod tests {
     fn the_first_differing_line_is_found() {
         assert_eq!(first_difference(b"", b""), None);
         assert_eq!(first_difference(b"a\nb\n", b"a\nb\n"), None);
-        assert_eq!(first_difference(b"a\nb\n", b"a\nc\n"), differing(2, Some("b\\n"), Some("c\\n")));
-        assert_eq!(first_difference(b"a\nb\n", b"a\n"), differing(2, Some("b\\n"), None));
-        assert_eq!(first_difference(b"a\n", b"a\nb\n"), differing(2, None, Some("b\\n")));
-        assert_eq!(first_difference(b"a\n", b"a"), differing(1, Some("a\\n"), Some("a")));
+        assert_eq!(
+            first_difference(b"a\nb\n", b"a\nc\n"),
+            differing(2, Some("b\\n"), Some("c\\n"))
+        );
+        assert_eq!(
+            first_difference(b"a\nb\n", b"a\n"),
+            differing(2, Some("b\\n"), None)
+        );
+        assert_eq!(
+            first_difference(b"a\n", b"a\nb\n"),
+            differing(2, None, Some("b\\n"))
+        );
+        assert_eq!(
+            first_difference(b"a\n", b"a"),
+            differing(1, Some("a\\n"), Some("a"))
+        );
     }
 }

@@ -1,6 +1,7 @@
 //! The lines of a script (the manual, "Replaying a script"): what each one
 //! says, and which line is the first wrong one.
 
+use crate::encoder::fields;
 use crate::words::{Form, FORMS};
 
 pub const MOST_BYTES: usize = 4_194_304;
@@ -110,7 +111,7 @@ fn call(key: &[u8], values: &[u8]) -> Option<Line> {
 /// A form's line. The mode, if the form has one, comes before its fields.
 fn encoding(key: &[u8], values: &[u8]) -> Option<Line> {
     let shape = FORMS.iter().find(|form| form.key().as_bytes() == key)?;
-    let mut digits = vec![16; crate::encoder::fields(shape.instruction).len()];
+    let mut digits = vec![16; fields(shape.instruction).len()];
     if shape.mode.is_some() {
         digits.insert(0, 1);
     }

@@ -9,11 +9,11 @@ use Rattle.machine.specs.State.{State, withX}
 
 -- register n, where 31 is SP
 abbrev pub xOrSp : List ℕ → ℕ → ℕ
-xOrSp x n = getD x n 0
+xOrSp x n = cond (ltb n 32) (getD x n 0) 0
 
 -- register n, where 31 reads as zero
 abbrev pub xOrZero : List ℕ → ℕ → ℕ
-xOrZero x n = cond (eqb n 31) 0 (getD x n 0)
+xOrZero x n = cond (eqb n 31) 0 (xOrSp x n)
 
 -- the register n given a value; 32 is none
 abbrev pub written : List ℕ → ℕ → ℕ → List ℕ

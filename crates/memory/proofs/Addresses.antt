@@ -49,7 +49,9 @@ located base g address pair i h = go (allInside base g (named pair) address) ref
     go : (t : Bool) → allInside base g (named pair) address ≡ t → cond t (At (indexOf base address)) Outside ≡ At i
         → (allInside base g (named pair) address ≡ true) × (i ≡ indexOf base address)
     go true e k = (e, cc)
-    go false e k = let no : _≡_ {A = ℕ} 0 1 = cc in absurd (omega arith)
+    go false e k = let z : _≡_ {A = ℕ} 0 1 = cc in absurd (omega arith)
+
+-- the first granule named is inside, and of a pair the second
 
 pub all-first : (base g address : ℕ) (pair : Bool) → allInside base g (named pair) address ≡ true → inside base g address ≡ true
 unfolding allInside
@@ -76,6 +78,7 @@ next-location base bytes g address s z h =
     let second = inside-range base g (onward address 16) (all-second base g address h) in
     omega arith
 
+-- the granules named lie below the number of granules
 pub within : (base bytes g address : ℕ) (pair : Bool) → Sized base bytes g → address % 16 ≡ 0
     → allInside base g (named pair) address ≡ true → indexOf base address + named pair ≤ g
 within base bytes g address true s z h =
@@ -84,6 +87,7 @@ within base bytes g address true s z h =
     omega (arith, inside-range base g address (all-first base g address true h))
 within base bytes g address false s z h = omega (arith, inside-range base g address (all-first base g address false h))
 
+-- the second granule of a pair is the next
 pub next-index : (base bytes g address : ℕ) → Sized base bytes g → address % 16 ≡ 0
     → allInside base g (named true) address ≡ true → indexOf base (onward address 16) ≡ indexOf base address + 1
 next-index base bytes g address s z h =

@@ -43,10 +43,12 @@ module _ (l : List ℕ) (small : (i : ℕ) → getD l i 0 < 256) where
       rw (e, saved-pair at (omega arith), saved-pair (at + 16) (omega arith), ← drop-drop 16 at l) (sym (take-add 16 16 (drop at l)))
   saved false at h = saved-pair at h
 
-  pub data-back : (pair : Bool) (at : ℕ) (vs : List ℕ) → at + 16 * named pair ≤ length l → length vs ≤ 16 * named pair
-      → sets (sets l at vs) at
-      (savedBytes pair (wordOf (drop at l)) (wordOf (drop (at + 8) l)) (wordOf (drop (at + 16) l)) (wordOf (drop (at + 24) l))) ≡ l
-  data-back pair at vs h k = rw (saved pair at h) (sets-back at (16 * named pair) l vs k)
+-- the words saved before a store, stored after it
+pub data-back : (pair : Bool) (at : ℕ) (l vs : List ℕ) → ((i : ℕ) → getD l i 0 < 256)
+    → at + 16 * named pair ≤ length l → length vs ≤ 16 * named pair
+    → sets (sets l at vs) at
+    (savedBytes pair (wordOf (drop at l)) (wordOf (drop (at + 8) l)) (wordOf (drop (at + 16) l)) (wordOf (drop (at + 24) l))) ≡ l
+data-back pair at l vs small h k = rw (saved l small pair at h) (sets-back at (16 * named pair) l vs k)
 
 -- the tags
 
@@ -55,6 +57,7 @@ saved-tags : (pair : Bool) (at : ℕ) (l : List ℕ) → at + named pair ≤ len
 saved-tags true at l h = rw (drop-cons l at 0 (omega arith), drop-cons l (suc at) 0 (omega arith), add-one)
 saved-tags false at l h = rw (drop-cons l at 0 (omega arith))
 
+-- the tag bytes saved before a store, stored after it
 pub tags-back : (pair : Bool) (at : ℕ) (l vs : List ℕ) → at + named pair ≤ length l → length vs ≤ named pair
     → sets (sets l at vs) at (tagBytes pair (getD l at 0) (getD l (at + 1) 0)) ≡ l
 tags-back pair at l vs h k = rw (saved-tags pair at l h) (sets-back at (named pair) l vs k)

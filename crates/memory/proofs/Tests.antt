@@ -1,15 +1,10 @@
--- Two tests that hold of the same numbers give the same answer. Assumes nothing.
-use Prim.Native.Nat.{ℕ, _≤_}
+-- An answer that is the answer of a test, since it tells the same of the numbers. Assumes nothing.
+use Prim.Native.Nat.{ℕ, _≤_, _<_}
 use mathlib.Core.Bool.{Bool, true, false}
-use mathlib.Core.Path.{_≡_, refl, sym, _∙_}
+use mathlib.Core.Path.{_≡_, refl, sym}
 use lib.Dec.{leb}
-use borrow.Author.Tests.{le-leb, leb-true}
+use borrow.Author.Tests.{le-leb, lt-leb}
 
-pub same-test : (a b c d : ℕ) → (a ≤ b → c ≤ d) → (c ≤ d → a ≤ b) → leb a b ≡ leb c d
-same-test a b c d there back = go (leb a b) (leb c d) refl refl
-  where
-    go : (s t : Bool) → leb a b ≡ s → leb c d ≡ t → s ≡ t
-    go true true e f = refl
-    go true false e f = sym (le-leb c d (there (leb-true a b e))) ∙ f
-    go false true e f = sym e ∙ le-leb a b (back (leb-true c d f))
-    go false false e f = refl
+pub same-test : (r : Bool) (a b : ℕ) → (r ≡ true → a ≤ b) → (r ≡ false → b < a) → r ≡ leb a b
+same-test true a b below above = sym (le-leb a b (below refl))
+same-test false a b below above = sym (lt-leb a b (above refl))

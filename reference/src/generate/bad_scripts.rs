@@ -119,7 +119,9 @@ pub fn all() -> Vec<Vec<u8>> {
     changed.extend(AT_LIMITS.iter().map(|line| line.as_bytes().to_vec()));
     changed.extend(OF_NO_KIND.iter().map(|line| line.as_bytes().to_vec()));
     let placed = changed.iter().enumerate();
-    let mut scripts: Vec<Vec<u8>> = placed.map(|(number, line)| with_line(line, number)).collect();
+    let mut scripts: Vec<Vec<u8>> = placed
+        .map(|(number, line)| with_line(line, number))
+        .collect();
     scripts.extend(unended());
     scripts.extend(whole_scripts());
     scripts
@@ -174,7 +176,10 @@ fn with_line(line: &[u8], number: usize) -> Vec<u8> {
 }
 
 fn ended(lines: &[&str]) -> Vec<u8> {
-    lines.iter().flat_map(|line| [line.as_bytes(), b"\n"].concat()).collect()
+    lines
+        .iter()
+        .flat_map(|line| [line.as_bytes(), b"\n"].concat())
+        .collect()
 }
 
 /// Each kind of line as the last one, not ended.
@@ -203,7 +208,16 @@ fn whole_scripts() -> Vec<Vec<u8>> {
         ended(&["show", "shwo", "fresh="]),
         with_end(b"shwo\n", b"show"),
         with_end(&ended(&RIGHT).repeat(20), b"access=2\nshow\n"),
-        right.iter().flat_map(|&byte| if byte == b'\n' { vec![b'\r', b'\n'] } else { vec![byte] }).collect(),
+        right
+            .iter()
+            .flat_map(|&byte| {
+                if byte == b'\n' {
+                    vec![b'\r', b'\n']
+                } else {
+                    vec![byte]
+                }
+            })
+            .collect(),
         with_length(MOST_BYTES, b"show\n"),
         with_length(MOST_BYTES, b"show"),
         with_length(MOST_BYTES, b"shwo\n"),
@@ -259,8 +273,15 @@ mod tests {
     #[test]
     fn most_scripts_are_bad() {
         let scripts = all();
-        let bad = scripts.iter().filter(|script| lines(script).is_err()).count();
-        assert!(bad > 500 && bad < scripts.len(), "{bad} of {}", scripts.len());
+        let bad = scripts
+            .iter()
+            .filter(|script| lines(script).is_err())
+            .count();
+        assert!(
+            bad > 500 && bad < scripts.len(),
+            "{bad} of {}",
+            scripts.len()
+        );
     }
 
     #[test]

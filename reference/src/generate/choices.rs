@@ -9,7 +9,10 @@ use super::random::Random;
 pub fn choices(random: &mut Random) -> Script {
     let mut author = Author::default();
     let ones = (0..16).map(|tag| 1 << tag);
-    let masks: Vec<u16> = ones.flat_map(|one: u16| [one, !one]).chain([0, 0xFFFF]).collect();
+    let masks: Vec<u16> = ones
+        .flat_map(|one: u16| [one, !one])
+        .chain([0, 0xFFFF])
+        .collect();
     for start in 0..16 {
         for offset in 0..16 {
             let others: Vec<u16> = (0..166).map(|_| random.bits() as u16).collect();

@@ -1,7 +1,7 @@
 //! Words to decode, and fields to encode.
 
 use super::author::{Author, Script};
-use super::operands::{any_word, value};
+use super::operands::{any_form, any_word, value};
 use super::random::Random;
 use crate::encoder::{fields, Field, Kind};
 use crate::player::form_line;
@@ -77,17 +77,20 @@ fn amounts(lowest: u64, highest: u64) -> Vec<u64> {
     all
 }
 
-/// Fields in range, all alike, or with one of them astray.
+/// Fields in range, or one of them astray.
 pub fn random_encodings(random: &mut Random) -> Script {
     let mut author = Author::default();
     for _ in 0..10_000 {
-        let form = &FORMS[random.below(FORMS.len() as u64) as usize];
+        let form = any_form(random);
         let shape = fields(form.instruction);
         let mut values: Vec<u64> = shape.iter().map(|field| value(random, field)).collect();
         if random.one_in(4) {
             let place = random.below(values.len() as u64) as usize;
-            let astray = edge_values(&shape[place]);
-            values[place] = random.pick(&[random.pick(&astray), random.bits(), random.below(8192)]);
+            values[place] = match random.below(3) {
+                0 => random.bits(),
+                1 => random.below(8192),
+                _ => random.pick(&edge_values(&shape[place])),
+            };
         }
         author.line(&form_line(form, &values));
     }

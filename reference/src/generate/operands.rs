@@ -3,7 +3,7 @@
 use super::random::Random;
 use crate::encoder::{Field, Kind};
 use crate::machine::Machine;
-use crate::words::Form;
+use crate::words::{Form, FORMS};
 
 const TOP: u64 = 1 << 56;
 
@@ -31,7 +31,7 @@ pub fn mask(random: &mut Random) -> u16 {
 }
 
 /// Bits 63:56 of every kind, in their place.
-pub fn top_byte(random: &mut Random) -> u64 {
+fn top_byte(random: &mut Random) -> u64 {
     let tag = random.below(16);
     let byte = match random.below(6) {
         0 => 0,
@@ -42,6 +42,11 @@ pub fn top_byte(random: &mut Random) -> u64 {
         _ => random.below(256),
     };
     byte << 56
+}
+
+/// A location with any bits above it.
+pub fn with_top_byte(random: &mut Random, location: u64) -> u64 {
+    (location % TOP) | top_byte(random)
 }
 
 /// A value in range for a field, often at an end of its range.
@@ -85,13 +90,13 @@ pub fn base(random: &mut Random, granules: u64) -> u64 {
     }
 }
 
-/// An address for a load or store: mostly a modelled granule, else on either
-/// side of the ends, seldom anywhere; now and then off a granule.
-pub fn address(random: &mut Random, machine: &Machine) -> u64 {
+/// An address for a load or store of so many granules: mostly modelled ones,
+/// else on either side of the ends, seldom anywhere; now and then off a granule.
+pub fn address(random: &mut Random, machine: &Machine, named: u64) -> u64 {
     let granules = machine.tags.len() as u64;
     let end = machine.base.wrapping_add(16 * granules);
     let location = match random.below(20) {
-        0..=14 if granules > 0 => machine.base + 16 * granule(random, granules),
+        0..=14 if granules >= named => machine.base + 16 * first_of(random, granules + 1 - named),
         15 => random.bits(),
         _ => random.pick(&[
             machine.base.wrapping_sub(16),
@@ -109,10 +114,11 @@ pub fn address(random: &mut Random, machine: &Machine) -> u64 {
         0 => random.pick(&[1, 2, 4, 8, 15]),
         _ => 0,
     };
-    top_byte(random) | (location % TOP).wrapping_add(off) % TOP
+    with_top_byte(random, location.wrapping_add(off))
 }
 
-fn granule(random: &mut Random, granules: u64) -> u64 {
+/// One of so many granules, often the first or one of the last two.
+fn first_of(random: &mut Random, granules: u64) -> u64 {
     match random.below(6) {
         0 => 0,
         1 => granules - 1,
@@ -125,18 +131,22 @@ fn granule(random: &mut Random, granules: u64) -> u64 {
 /// into the tag, changes bit 55, or wraps.
 pub fn pointer(random: &mut Random, machine: &Machine) -> u64 {
     match random.below(4) {
-        0 => address(random, machine),
+        0 => address(random, machine, 1),
         1 => random.bits(),
         _ => {
-            let edge = random.pick(&[0, 1 << 32, 1 << 55, TOP, 1 << 60, 1 << 63]);
+            let edge: u64 = random.pick(&[0, 1 << 32, 1 << 55, TOP, 1 << 60, 1 << 63]);
             let close = random.pick(&[0, 1, 8, 16, 1008, 1024, 4096]);
             let value = match random.below(2) {
-                0 => close.wrapping_add(edge),
+                0 => edge.wrapping_add(close),
                 _ => edge.wrapping_sub(close),
             };
             top_byte(random).wrapping_add(value)
         }
     }
+}
+
+pub fn any_form(random: &mut Random) -> &'static Form {
+    &FORMS[random.below(FORMS.len() as u64) as usize]
 }
 
 /// A word of a form with any fields.

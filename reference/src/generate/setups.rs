@@ -2,13 +2,14 @@
 //! else accepted, undefined or refused for another reason.
 
 use super::author::{Author, Script};
+use super::operands::{any_form, any_word};
 use super::random::Random;
 
 const TOP: u64 = 1 << 56;
 const MOST: u64 = 65_536;
 
-/// Words on the registers that `registers` sets: accepted ADDG, IRG, SUBPS
-/// and STG, two undefined ones, SPALIGN, ALIGN and OUTSIDE.
+/// Words for the registers that `begin` sets, as they end on a well-formed
+/// setup: four accepted, two undefined, then SPALIGN, ALIGN and OUTSIDE.
 const WORDS: [u32; 9] = [
     0x9181_0420, // ADDG X0, X1, #16, #1
     0x9ADF_1024, // IRG X4, X1
@@ -142,6 +143,10 @@ pub fn several_rules(random: &mut Random) -> Script {
             author.line(random.pick(&[broken, mended]));
         }
         words(&mut author);
+        for _ in 0..4 {
+            let form = any_form(random);
+            author.word(any_word(random, form));
+        }
     }
     author.finish()
 }
@@ -152,12 +157,12 @@ fn begin(author: &mut Author, sizes: &Sizes, access: u8) {
     author.line(&format!("data={:08x}", sizes.data));
     author.line(&format!("access={access}"));
     author.line("seed=1234");
-    let end = sizes.base.wrapping_add(16 * sizes.tags);
-    author.register(1, 0x0300_0000_0000_0000 | sizes.base % TOP);
-    author.register(2, sizes.base % TOP + 8);
-    author.register(3, end % TOP);
+    let first = sizes.base % TOP;
+    author.register(1, first | 0x0300_0000_0000_0000);
+    author.register(2, first + 8);
+    author.register(3, first + 16 * sizes.tags);
     author.register(5, 0x0900_0000_0000_0000);
-    author.register(31, sizes.base % TOP + 8);
+    author.register(31, first + 8);
     author.tag(0, 0xF7);
 }
 

@@ -2,7 +2,9 @@
 //! as the words before left them.
 
 use super::author::{Author, Script};
-use super::operands::{address, any_word, base, mask, pointer, register, top_byte, value};
+use super::operands::{
+    address, any_form, any_word, base, mask, pointer, register, value, with_top_byte,
+};
 use super::random::Random;
 use crate::encoder::{encode, fields, RM, RN, RT};
 use crate::machine::MOST_GRANULES;
@@ -75,7 +77,10 @@ fn setup(author: &mut Author, random: &mut Random, granules: u64) {
     author.line(&format!("nzcv={:02x}", random.below(16)));
     author.line(&format!("rgsr={:02x}", random.below(16)));
     let seed = random.bits();
-    author.line(&format!("seed={:04x}", random.pick(&[0, 1, 0xFFFF, seed as u16])));
+    author.line(&format!(
+        "seed={:04x}",
+        random.pick(&[0, 1, 0xFFFF, seed as u16])
+    ));
     for index in some_indices(random, granules, 4) {
         author.tag(index, random.bits() as u8);
     }
@@ -100,13 +105,13 @@ fn some_indices(random: &mut Random, count: u64, between: u64) -> Vec<u64> {
 fn point_into_memory(author: &mut Author, random: &mut Random) {
     for number in 0..32 {
         let inside = author.machine().base + 16 * random.below(3);
-        author.register(number, top_byte(random) | inside);
+        author.register(number, with_top_byte(random, inside));
     }
 }
 
 /// One word: a form with its operands set, seldom a word of no form.
 fn word(author: &mut Author, random: &mut Random) {
-    let form = &FORMS[random.below(FORMS.len() as u64) as usize];
+    let form = any_form(random);
     if random.one_in(32) {
         let astray = any_word(random, form) ^ 1 << random.below(32);
         author.word(astray);
@@ -159,7 +164,7 @@ fn set_pointer(author: &mut Author, random: &mut Random, number: u64) {
 fn set_near_pointer(author: &mut Author, random: &mut Random, word: u32) {
     let minuend = author.machine().register_or_sp(RN.of(word));
     let value = match random.below(4) {
-        0 => minuend % (1 << 56) | top_byte(random),
+        0 => with_top_byte(random, minuend),
         1 => minuend.wrapping_add(random.pick(&[1, 16, u64::MAX, 1 << 55])),
         2 => pointer(random, author.machine()),
         _ => return,
@@ -169,7 +174,8 @@ fn set_near_pointer(author: &mut Author, random: &mut Random, word: u32) {
 
 fn set_mask(author: &mut Author, random: &mut Random, word: u32) {
     if !random.one_in(4) {
-        let above = random.pick(&[0, random.bits() << 16, 1 << 16, u64::MAX << 16]);
+        let any = random.bits();
+        let above = random.pick(&[0, 1, any, u64::MAX]) << 16;
         author.register(RM.of(word), above | u64::from(mask(random)));
     }
 }
@@ -180,8 +186,14 @@ fn set_base_register(author: &mut Author, random: &mut Random, form: &Form, word
     if random.one_in(6) {
         return;
     }
-    let address = address(random, author.machine());
-    let amount = fields(form.instruction).last().map_or(0, |field| field.of(word));
+    let named = match form.instruction {
+        Instruction::St2g | Instruction::Stz2g => 2,
+        _ => 1,
+    };
+    let address = address(random, author.machine(), named);
+    let amount = fields(form.instruction)
+        .last()
+        .map_or(0, |field| field.of(word));
     let unmoved = match form.mode {
         Some(Mode::Post) => address,
         _ => address.wrapping_sub(amount),

@@ -45,7 +45,9 @@ returns-2 c =
     rw (c .before .before .before .if2 .taken)
     (second-outside (a .base) (a .granules) (a .address)
     (sym (c .before .before .before .before .before .is-inside .ensures) ∙ not-false _ (c .before .before .before .before .if1 .left))
-    (ap (inside (a .base) (a .granules)) (sym (c .before .before .wrapping-add-u64 .ensures)) ∙ sym (c .before .is-inside2 .ensures) ∙ not-true _ (c .if3 .taken)))
+    (ap (inside (a .base) (a .granules)) (sym (c .before .before .wrapping-add-u64 .ensures))
+    ∙ sym (c .before .is-inside2 .ensures)
+    ∙ not-true _ (c .if3 .taken)))
 
 pub locate-spec : {M : Type 1} → statement M
 locate-spec =

@@ -35,7 +35,8 @@ returns c =
     let second = c .before .before .store-pair2 in
     let a = c .before .before .before .before .before .before .before .before .before .before .args in
     rw (c .before .before .before .before .if1 .taken)
-    (back-append 16 (a .part .now) (pairBytes (a .a) (a .b)) (pairBytes (a .c) (a .d)) (first .last .0) (second .last .0) (pair-length (a .a) (a .b)) (first .ensures) (second .ensures))
+    (back-append 16 (a .part .now) (pairBytes (a .a) (a .b)) (pairBytes (a .c) (a .d)) (first .last .0) (second .last .0)
+    (pair-length (a .a) (a .b)) (first .ensures) (second .ensures))
 
 same-length-2 : tie.Need-same-length-2
 same-length-2 c = search needs

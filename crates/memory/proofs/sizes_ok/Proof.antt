@@ -1,8 +1,9 @@
 -- `memory::sizes_ok` meets its contract, test by test. Assumes nothing.
-use Prim.Native.Nat.{_+_, _-_, _*_, _%_, _^_}
+use Prim.Native.Nat.{_+_, _*_, _%_, _^_}
+use mathlib.Core.Bool.{and-false}
 use native.Mathlib.Omega.{arith}
 use borrow.Author.Needs.{needs}
-use borrow.Author.Tests.{le-leb, lt-leb, eq-eqb, ne-eqb}
+use borrow.Author.Tests.{le-leb, lt-leb, eq-eqb, ne-eqb, leb-true, leb-false}
 use Rattle.memory.specs.Sizes.{sizesOk}
 use Rattle.memory.proofs.Tests.{same-test}
 use Rattle.memory.proofs.sizes_ok.Statement.{statement}
@@ -19,13 +20,13 @@ returns-2 : tie.Need-returns-2
 unfolding sizesOk
 returns-2 c =
     let a = c .before .before .args in
-    simp (le-leb (a .granules) 65536 (omega arith), ne-eqb (a .bytes) (16 * a .granules) (λ e. c .if2 .taken (omega arith)))
+    simp (ne-eqb (a .bytes) (16 * a .granules) (λ e. c .if2 .taken (omega arith)), and-false)
 
 returns-3 : tie.Need-returns-3
 unfolding sizesOk
 returns-3 c =
     let a = c .before .before .before .args in
-    simp (le-leb (a .granules) 65536 (omega arith), eq-eqb (a .bytes) (16 * a .granules) (omega arith), ne-eqb (a .base % 16) 0 (λ e. c .if3 .taken (omega arith)))
+    simp (ne-eqb (a .base % 16) 0 (λ e. c .if3 .taken (omega arith)), and-false)
 
 mul-result : tie.Need-mul-result
 mul-result c = search needs
@@ -37,10 +38,8 @@ returns-4 : tie.Need-returns-4
 unfolding sizesOk
 returns-4 c =
     let a = c .before .before .before .args in
-    let base = a .base in
-    let g = a .granules in
-    simp (le-leb g 65536 (omega arith), eq-eqb (a .bytes) (16 * g) (omega arith), eq-eqb (base % 16) 0 (omega arith))
-    (same-test base (2 ^ 56 - 16 * g) (base + 16 * g) (2 ^ 56) (λ h. omega arith) (λ h. omega arith))
+    simp (le-leb (a .granules) 65536 (omega arith), eq-eqb (a .bytes) (16 * a .granules) (omega arith), eq-eqb (a .base % 16) 0 (omega arith))
+    (same-test _ (a .base + 16 * a .granules) (2 ^ 56) (λ e. omega (arith, leb-true)) (λ e. omega (arith, leb-false)))
 
 pub sizes-ok-spec : {M : Type 1} → statement M
 sizes-ok-spec =

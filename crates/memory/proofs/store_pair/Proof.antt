@@ -29,7 +29,8 @@ returns c =
     let first = c .before .before .before .before .before .before .store-word in
     let second = c .before .before .store-word2 in
     let a = c .before .before .before .before .before .before .before .before .before .args in
-    back-append 8 (a .part .now) (bytesOf (a .low)) (bytesOf (a .high)) (first .last .0) (second .last .0) (low-bytes-length 8 (a .low)) (first .ensures) (second .ensures)
+    back-append 8 (a .part .now) (bytesOf (a .low)) (bytesOf (a .high)) (first .last .0) (second .last .0)
+    (low-bytes-length 8 (a .low)) (first .ensures) (second .ensures)
 
 pub store-pair-spec : {M : Type 1} → statement M
 store-pair-spec =

@@ -21,10 +21,10 @@ returns : tie.Need-returns
 returns c = search needs
 
 returns-2 : tie.Need-returns-2
-returns-2 c = ?
+returns-2 c = rw (c .before .enum-told2 .given .1) (c .wrapping-add-u64 .ensures)
 
 returns-3 : tie.Need-returns-3
-returns-3 c = ?
+returns-3 c = rw (c .before .enum-told3 .given .1) (c .wrapping-add-u642 .ensures)
 
 pub address-of-spec : {M : Type 1} → statement M
 address-of-spec =

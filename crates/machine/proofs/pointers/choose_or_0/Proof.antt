@@ -1,3 +1,4 @@
+use Rattle.tag.proofs.TagChoice.{chosen-lt}
 use borrow.Author.Needs.{needs}
 use Rattle.machine.proofs.pointers.choose_or_0.Statement.{statement}
 use Rattle.machine.proofs.pointers.choose_or_0.Tie as tie
@@ -6,7 +7,9 @@ choose-requires : tie.Need-choose-requires
 choose-requires c κs = search needs
 
 returns : tie.Need-returns
-returns c = ?
+returns c = 
+    let a = c .before .before .args in
+    (rw (c .before .if1 .taken) (c .choose .ensures), rw (c .choose .ensures) (chosen-lt (a .start) (a .offset) (a .settings .exclude) (c .before .before .pre)))
 
 returns-2 : tie.Need-returns-2
 returns-2 c = search needs

@@ -1,3 +1,5 @@
+use Rattle.machine.proofs.Differences.{subtracted}
+use native.Mathlib.Omega.{arith}
 use borrow.Author.Needs.{needs}
 use Rattle.machine.proofs.pointers.moved_by.Statement.{statement}
 use Rattle.machine.proofs.pointers.moved_by.Tie as tie
@@ -15,10 +17,10 @@ wrapping-sub-u64-requires : tie.Need-wrapping-sub-u64-requires
 wrapping-sub-u64-requires c κs = search needs
 
 returns : tie.Need-returns
-returns c = ?
+returns c = rw (c .before .enum-told .given .1) (c .wrapping-add-u64 .ensures)
 
 returns-2 : tie.Need-returns-2
-returns-2 c = ?
+returns-2 c = rw (c .before .enum-told2 .given .1) (subtracted (c .wrapping-sub-u64 .result) (c .before .before .before .args .v) (c .before .before .before .args .amount) (omega arith) (omega arith) (c .wrapping-sub-u64 .ensures))
 
 pub moved-by-spec : {M : Type 1} → statement M
 moved-by-spec =

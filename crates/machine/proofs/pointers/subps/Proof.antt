@@ -15,7 +15,7 @@ subp-requires : tie.Need-subp-requires
 subp-requires c κs = search needs
 
 returns : tie.Need-returns
-returns c = ?
+returns c = cc
 
 pub subps-spec : {M : Type 1} → statement M
 subps-spec =

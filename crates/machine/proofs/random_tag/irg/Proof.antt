@@ -18,7 +18,7 @@ register-effect-requires : tie.Need-register-effect-requires
 register-effect-requires c κs = search needs
 
 returns : tie.Need-returns
-returns c = ?
+returns c = rw (c .before .before .before .before .if1 .taken) cc
 
 with-tag-requires-2 : tie.Need-with-tag-requires-2
 with-tag-requires-2 c κs = search needs
@@ -27,7 +27,7 @@ register-effect-requires-2 : tie.Need-register-effect-requires-2
 register-effect-requires-2 c κs = search needs
 
 returns-2 : tie.Need-returns-2
-returns-2 c = ?
+returns-2 c = rw (c .before .before .if1 .left) cc
 
 pub irg-spec : {M : Type 1} → statement M
 irg-spec =

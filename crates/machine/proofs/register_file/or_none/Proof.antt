@@ -1,11 +1,12 @@
+use borrow.Author.Tests.{eq-eqb, ne-eqb}
 use Rattle.machine.proofs.register_file.or_none.Statement.{statement}
 use Rattle.machine.proofs.register_file.or_none.Tie as tie
 
 returns : tie.Need-returns
-returns c = ?
+returns c = rw (eq-eqb (c .before .args .n) 31 (c .if1 .taken))
 
 returns-2 : tie.Need-returns-2
-returns-2 c = ?
+returns-2 c = rw (ne-eqb (c .before .args .n) 31 (c .if1 .left))
 
 pub or-none-spec : {M : Type 1} → statement M
 or-none-spec = tie.close (tie.spec returns returns-2)

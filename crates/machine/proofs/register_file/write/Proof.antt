@@ -1,3 +1,4 @@
+use borrow.Author.Tests.{lt-ltb, le-ltb}
 use borrow.Author.Needs.{needs}
 use Rattle.machine.proofs.register_file.write.Statement.{statement}
 use Rattle.machine.proofs.register_file.write.Tie as tie
@@ -9,10 +10,10 @@ element-write-x : tie.Need-element-write-x
 element-write-x c = search needs
 
 returns : tie.Need-returns
-returns c = ?
+returns c = rw (lt-ltb (c .before .args .n) 32 (c .if1 .taken))
 
 returns-2 : tie.Need-returns-2
-returns-2 c = ?
+returns-2 c = rw (le-ltb (c .before .args .n) 32 (c .if1 .left))
 
 pub write-spec : {M : Type 1} → statement M
 write-spec = tie.close (tie.spec mul-x element-write-x returns returns-2)
