@@ -35,7 +35,7 @@ impl Job {
     }
 }
 
-/// How often the random parts are done.
+/// All scripts there are, with so many times as many random ones.
 pub fn jobs(times: u64) -> Vec<Job> {
     let mut plan = Plan::default();
     plan.once("rows of the paper", |_| rows::all());

@@ -72,7 +72,9 @@ impl Machine {
         match form.instruction {
             Instruction::Addg => self.add_with_tag(word, u64::wrapping_add),
             Instruction::Subg => self.add_with_tag(word, u64::wrapping_sub),
-            Instruction::Subp => drop(self.subtract_pointers(word)),
+            Instruction::Subp => {
+                self.subtract_pointers(word);
+            }
             Instruction::Subps => self.nzcv = self.subtract_pointers(word),
             Instruction::Irg => self.insert_random_tag(word),
             Instruction::Gmi => self.insert_tag_in_mask(word),

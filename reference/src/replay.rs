@@ -6,7 +6,7 @@ use std::fmt;
 use std::fs;
 use std::io::{self, Read, Write};
 use std::path::{Path, PathBuf};
-use std::process::{Child, Command, ExitStatus, Stdio};
+use std::process::{Command, ExitStatus, Stdio};
 use std::sync::atomic::{AtomicUsize, Ordering};
 use std::sync::Mutex;
 use std::thread;
@@ -55,7 +55,7 @@ impl fmt::Display for Differing {
 
 /// What the program wrote for a script, and how it ended.
 fn run(program: &Path, script: &[u8]) -> io::Result<(Vec<u8>, ExitStatus)> {
-    let mut child: Child = Command::new(program)
+    let mut child = Command::new(program)
         .stdin(Stdio::piped())
         .stdout(Stdio::piped())
         .spawn()?;
@@ -70,7 +70,8 @@ fn run(program: &Path, script: &[u8]) -> io::Result<(Vec<u8>, ExitStatus)> {
     Ok((written, child.wait()?))
 }
 
-/// Why one script failed, or nothing.
+/// Why one script failed, or nothing. The manual promises nothing of the exit
+/// status, so only a program ended by a signal is blamed for its end.
 fn complaint(program: &Path, script: &Script) -> Option<String> {
     match run(program, &script.text) {
         Err(error) => Some(format!("{} cannot be run: {error}", program.display())),
@@ -205,6 +206,7 @@ fn take<'jobs>(jobs: &'jobs [Job], next: &AtomicUsize) -> Option<(usize, &'jobs 
 #[cfg(test)]
 mod tests {
     use super::*;
+    use crate::generate::jobs;
 
     fn differing(line: usize, reference: Option<&str>, program: Option<&str>) -> Option<Differing> {
         Some(Differing {
@@ -234,5 +236,34 @@ mod tests {
             first_difference(b"a\n", b"a"),
             differing(1, Some("a\\n"), Some("a"))
         );
+    }
+
+    fn first_job(kind: &str) -> Vec<Job> {
+        let mut jobs = jobs(1);
+        jobs.retain(|job| job.kind == kind && job.number == 0);
+        jobs
+    }
+
+    #[test]
+    fn a_wrong_program_is_caught_and_its_script_kept() {
+        // `cat` gives the script back, and so answers a remark with a remark.
+        let jobs = first_job("rows of the paper");
+        let Err(failure) = replay(Path::new("cat"), &jobs, 5, 2) else {
+            panic!("cat plays no scripts");
+        };
+        let text = failure.to_string();
+        let begin = "rows of the paper, script 0, seed 5: output line 1\n  reference: code=0\\n\n  program:   # P1\\n\n";
+        assert!(text.starts_with(begin), "{text}");
+        let kept = fs::read(&failure.file).expect("the script is kept");
+        assert_eq!(kept, jobs[0].script(5).text);
+        fs::remove_file(&failure.file).expect("the script can be removed");
+    }
+
+    #[test]
+    fn a_program_need_not_read_its_script() {
+        let script = Script::of(vec![b'\n'; 4_194_304]);
+        assert_eq!(complaint(Path::new("true"), &script), None);
+        let missing = complaint(Path::new("/no/such/program"), &script);
+        assert!(missing.is_some_and(|text| text.contains("cannot be run")));
     }
 }

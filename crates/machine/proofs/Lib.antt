@@ -1,3 +1,10 @@
 -- Laws of the definitions, for the proofs here and in the crates above.
 pub mod Differences
 pub mod Edges
+pub mod Granules
+pub mod Judgement
+pub mod Outcomes
+pub mod Places
+pub mod Setup
+pub mod StoreEffects
+pub mod Within

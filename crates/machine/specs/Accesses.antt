@@ -1,13 +1,12 @@
 -- The addresses that LDG and the stores access, and what becomes of the base register (document 01, "Addresses", "Stores").
 use Prim.Native.Nat.{ℕ, _-_, _%_}
 use mathlib.Core.Bool.{Bool, not, _&&_}
-use mathlib.Core.List.{List}
 use lib.Dec.{eqb}
 use Rattle.isa.specs.declared.Mode.{Mode}
 use Rattle.isa.specs.declared.Mode.the-variants.{Post, Pre, Offset}
 use Rattle.memory.specs.Addresses.{onward}
 use Rattle.machine.specs.State.{State}
-use Rattle.machine.specs.Registers.{xOrSp, toXOrSp}
+use Rattle.machine.specs.Registers.{toXOrSp}
 
 -- post-index uses the base register as it stands
 abbrev pub addressOf : Mode → ℕ → ℕ → ℕ

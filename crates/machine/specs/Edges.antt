@@ -9,7 +9,7 @@ use Rattle.machine.specs.declared.Code.{Code}
 use Rattle.machine.specs.declared.Code.the-variants.{Done, SpAlign, Align, Outside}
 use Rattle.machine.specs.State.{State, stateOf, withX, withStatus, withBytes, withTags}
 use Rattle.machine.specs.Setup.{sound}
-use Rattle.machine.specs.Words.{Outcome, wordOutcome}
+use Rattle.machine.specs.Words.{wordOutcome}
 
 -- a word on a given state, its code and the state after it
 pub record Row : Type 0 where

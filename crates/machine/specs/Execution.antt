@@ -5,7 +5,7 @@ use lib.ListN.{length}
 use Rattle.machine.specs.declared.Code.{Code}
 use Rattle.machine.specs.declared.Cursor.{Cursor}
 use Rattle.machine.specs.declared.Machine.{Machine}
-use Rattle.machine.specs.State.{State, withMemory}
+use Rattle.machine.specs.State.{withMemory}
 use Rattle.machine.specs.Setup.{setupOk}
 use Rattle.machine.specs.Words.{Outcome, wordOutcome}
 

@@ -1,6 +1,5 @@
 -- STGP (document 003; document 01, "Stores").
 use Prim.Native.Nat.{ℕ, _-_}
-use mathlib.Core.List.{List}
 use lib.Seq.{sets}
 use Rattle.bits.specs.LittleEndian.{bytesOf}
 use Rattle.isa.specs.declared.Mode.{Mode}

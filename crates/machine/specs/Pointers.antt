@@ -1,7 +1,6 @@
 -- ADDG, SUBG, SUBP, SUBPS and GMI (document 01, "What each word does"; document 001 for ADDG).
 use Prim.Native.Nat.{ℕ, _+_, _-_, _*_, _%_, _^_}
-use mathlib.Core.Bool.{Bool, cond}
-use mathlib.Core.List.{List}
+use mathlib.Core.Bool.{cond}
 use lib.Dec.{eqb}
 use Rattle.bits.specs.Fields.{bitsAt, withBits}
 use Rattle.isa.specs.declared.AddSubOp.{AddSubOp}

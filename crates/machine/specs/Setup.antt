@@ -1,7 +1,6 @@
 -- The rules of the setup (document 01, "Sizes and shape of the setup").
 use Prim.Native.Nat.{ℕ, _/_}
 use mathlib.Core.Bool.{Bool, cond, _&&_}
-use mathlib.Core.List.{List}
 use lib.Dec.{leb, ltb, eqb}
 use lib.ListN.{length}
 use Rattle.memory.specs.Sizes.{sizesOk}

@@ -6,7 +6,6 @@ use lib.ListN.{replicate}
 use Rattle.machine.specs.declared.Settings.{Settings}
 use Rattle.machine.specs.declared.Status.{Status}
 use Rattle.machine.specs.declared.Registers.{Registers}
-use Rattle.machine.specs.declared.Cursor.{Cursor}
 use Rattle.machine.specs.declared.Machine.{Machine}
 
 pub record State : Type 0 where
@@ -21,7 +20,7 @@ stateOf settings x status bytes tags =
 
 -- a machine's state with the lent bytes
 abbrev pub withMemory : Machine → List ℕ → List ℕ → State
-withMemory m bytes tags = record { settings = m .settings; registers = m .registers; bytes = bytes; tags = tags }
+withMemory m bytes tags = stateOf (m .settings) (m .registers .x) (m .registers .status) bytes tags
 
 -- a state with one part replaced
 

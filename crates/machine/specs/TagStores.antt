@@ -1,7 +1,6 @@
 -- STG, STZG, ST2G and STZ2G (documents 000, 002 and 004; document 01, "Stores").
 use Prim.Native.Nat.{ℕ, _*_}
 use mathlib.Core.Bool.{Bool, true, false, cond}
-use mathlib.Core.List.{List}
 use lib.ListN.{set}
 use lib.Seq.{sets}
 use Rattle.isa.specs.declared.Mode.{Mode}

@@ -1,7 +1,6 @@
 -- One word on a state: its code, and the state after it (document 01, "What each word does", "Codes and their order").
 use Prim.Native.Nat.{ℕ}
 use mathlib.Core.Bool.{Bool, true, false, cond, not}
-use mathlib.Core.List.{List}
 use lib.ListN.{length}
 use Rattle.isa.specs.declared.TwoSourceOp.{TwoSourceOp}
 use Rattle.isa.specs.declared.TwoSourceOp.the-variants.{Subp, Subps, Irg, Gmi}

@@ -104,6 +104,7 @@ fn subtract(a: u64, b: u64) -> u64
 
 fn flag(set: bool, v: u64) -> u64
     ensures { λ r. ⌜ r ≡ cond set v 0 ⌝ }
+    ensures { λ r. ⌜ r ≤ v ⌝ }
 {
     if set { v } else { 0 }
 }

@@ -200,3 +200,22 @@ fn set_base_register(author: &mut Author, random: &mut Random, form: &Form, word
     };
     author.register(RN.of(word), unmoved);
 }
+
+#[cfg(test)]
+mod tests {
+    use super::*;
+
+    #[test]
+    fn every_form_is_accepted_often() {
+        for script in [small(&mut Random::new(1)), large(&mut Random::new(1))] {
+            let by_form = script.played.tally.by_form();
+            for line in by_form.lines().take(FORMS.len()) {
+                let accepted = line.split("Done ").nth(1).and_then(|rest| {
+                    let digits = rest.split(',').next()?;
+                    digits.parse::<u64>().ok()
+                });
+                assert!(accepted.is_some_and(|count| count > 50), "{line}");
+            }
+        }
+    }
+}

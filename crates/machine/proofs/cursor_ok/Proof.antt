@@ -1,17 +1,23 @@
+use Rattle.machine.specs.Setup.{cursorOk}
+use borrow.Author.Tests.{eq-eqb, ne-eqb, lt-ltb, le-ltb}
 use Rattle.machine.proofs.cursor_ok.Statement.{statement}
 use Rattle.machine.proofs.cursor_ok.Tie as tie
 
 returns : tie.Need-returns
-returns c = ?
+unfolding cursorOk
+returns c = rw (eq-eqb (c .before .before .before .before .args .slots) 0 (c .before .before .before .if1 .taken), eq-eqb (c .before .before .before .before .args .cursor .next) 0 (c .before .if2 .taken))
 
 returns-2 : tie.Need-returns-2
-returns-2 c = ?
+unfolding cursorOk
+returns-2 c = rw (eq-eqb (c .before .before .before .args .slots) 0 (c .before .before .if1 .taken), ne-eqb (c .before .before .before .args .cursor .next) 0 (c .if2 .left))
 
 returns-3 : tie.Need-returns-3
-returns-3 c = ?
+unfolding cursorOk
+returns-3 c = rw (ne-eqb (c .before .before .before .before .args .slots) 0 (c .before .before .before .if1 .left), lt-ltb (c .before .before .before .before .args .cursor .next) (c .before .before .before .before .args .slots) (c .before .if3 .taken))
 
 returns-4 : tie.Need-returns-4
-returns-4 c = ?
+unfolding cursorOk
+returns-4 c = rw (ne-eqb (c .before .before .before .args .slots) 0 (c .before .before .if1 .left), le-ltb (c .before .before .before .args .cursor .next) (c .before .before .before .args .slots) (c .if3 .left))
 
 pub cursor-ok-spec : {M : Type 1} → statement M
 cursor-ok-spec = tie.close (tie.spec returns returns-2 returns-3 returns-4)

@@ -1,3 +1,9 @@
+use Rattle.machine.proofs.Setup.{setup-state}
+use Rattle.machine.specs.Words.{wordOutcome}
+use Rattle.machine.specs.Execution.{executionOf, ofOutcome}
+use Rattle.machine.specs.Codes.{firstOf}
+use lib.ListN.{length}
+use mathlib.Core.Path.{sym, ap, _∙_}
 use borrow.Author.Needs.{needs}
 use Rattle.machine.proofs.execute.Statement.{statement}
 use Rattle.machine.proofs.execute.Tie as tie
@@ -6,7 +12,9 @@ setup-ok-requires : tie.Need-setup-ok-requires
 setup-ok-requires c κs = search needs
 
 perform-requires : tie.Need-perform-requires
-perform-requires c κs = ?
+perform-requires c κs =
+    let a = c .before .before .before .before .before .before .before .before .before .before .before .args in
+    setup-state (a .machine) (length (a .bytes .now)) (length (a .tags .now)) 0 (sym (c .before .before .before .before .before .before .before .before .setup-ok .ensures) ∙ c .before .before .before .before .before .before .before .if1 .taken)
 
 same-length : tie.Need-same-length
 same-length c = search needs
@@ -15,10 +23,13 @@ same-length-2 : tie.Need-same-length-2
 same-length-2 c = search needs
 
 returns : tie.Need-returns
-returns c = ?
+unfolding executionOf
+returns c =
+    rw (sym (c .before .before .before .before .before .before .before .before .before .before .before .before .before .before .setup-ok .ensures) ∙ c .before .before .before .before .before .before .before .before .before .before .before .before .before .if1 .taken) (ap (ofOutcome (c .before .before .before .before .before .before .before .before .before .before .before .before .before .before .before .before .before .args .machine .cursor)) (c .before .before .before .before .before .perform .ensures))
 
 returns-2 : tie.Need-returns-2
-returns-2 c = ?
+unfolding executionOf wordOutcome firstOf
+returns-2 c = rw (sym (c .before .setup-ok .ensures) ∙ c .if1 .left)
 
 pub execute-spec : {M : Type 1} → statement M
 execute-spec =

@@ -1,3 +1,14 @@
+use Rattle.machine.proofs.Within.{plan-within}
+use Rattle.machine.proofs.Outcomes.{plan-outcome}
+use Rattle.machine.proofs.Judgement.{fits}
+use Rattle.machine.proofs.Setup.{state-sized}
+use Rattle.machine.specs.Words.{wordOutcome}
+use Rattle.machine.specs.Plans.{planOutcome}
+use Rattle.machine.specs.State.{stateOf}
+use Rattle.machine.specs.declared.Judged.{Judged}
+use Rattle.isa.specs.Decoding.{decodeOf}
+use lib.ListN.{length}
+use mathlib.Core.Path.{ap, _∙_}
 use borrow.Author.Needs.{needs}
 use Rattle.machine.proofs.perform.Statement.{statement}
 use Rattle.machine.proofs.perform.Tie as tie
@@ -6,10 +17,17 @@ decode-requires : tie.Need-decode-requires
 decode-requires c κs = search needs
 
 judge-requires : tie.Need-judge-requires
-judge-requires c κs = ?
+judge-requires c κs =
+    let a = c .before .before .before .before .before .args in
+    let h = c .before .before .before .before .before .pre in
+    (rw (state-sized (a .settings) (a .status) (length (a .bytes .now)) (length (a .tags .now)) h .sixteen) at h, rw (c .decode .ensures) (fits (a .word)))
 
 carry-requires : tie.Need-carry-requires
-carry-requires c κs = ?
+carry-requires c κs =
+    let a = c .before .before .before .before .before .before .before .before .before .args in
+    let h = c .before .before .before .before .before .before .before .before .before .pre in
+    let e = state-sized (a .settings) (a .status) (length (a .bytes .now)) (length (a .tags .now)) h .sixteen in
+    (rw (c .before .before .before .judge .ensures) (plan-within (a .settings) (a .x .now) (a .status) (a .tags .now) (c .before .before .before .before .decode .result) (rw e at h)), e)
 
 same-length : tie.Need-same-length
 same-length c = search needs
@@ -18,7 +36,12 @@ same-length-2 : tie.Need-same-length-2
 same-length-2 c = search needs
 
 returns : tie.Need-returns
-returns c = ?
+unfolding wordOutcome
+returns c =
+    let a = c .before .before .before .before .before .before .before .before .before .before .before .before .before .before .args in
+    let s = stateOf (a .settings) (a .x .now) (a .status) (a .bytes .now) (a .tags .now) in
+    let j = rw (c .before .before .before .before .before .before .before .before .before .decode .ensures) at (c .before .before .before .before .before .before .before .before .judge .ensures) in
+    c .before .before .before .before .carry .ensures ∙ ap (λ (p : Judged). planOutcome p s) j ∙ plan-outcome s (decodeOf (a .word)) (c .before .before .before .before .before .before .before .before .before .before .before .before .before .before .pre)
 
 pub perform-spec : {M : Type 1} → statement M
 perform-spec =

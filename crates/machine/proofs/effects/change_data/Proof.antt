@@ -1,3 +1,9 @@
+use Rattle.memory.proofs.Lists.{back-part}
+use Rattle.memory.specs.Stores.{pairBytes, savedBytes, zeroBytes}
+use Prim.Native.Nat.{_*_}
+use lib.ListN.{length-take, length-drop}
+use lib.Dec.{eqb}
+use native.Mathlib.Omega.{arith}
 use borrow.Author.Needs.{needs}
 use Rattle.machine.proofs.effects.change_data.Statement.{statement}
 use Rattle.machine.proofs.effects.change_data.Tie as tie
@@ -21,7 +27,7 @@ part-zero-end : tie.Need-part-zero-end
 part-zero-end c = search needs
 
 zero-requires : tie.Need-zero-requires
-zero-requires c κs = ?
+zero-requires c κs = let h = rw (c .before .enum-told2 .given .1) at (c .before .before .before .before .pre) in simp (length-take, length-drop) (omega arith)
 
 enum-known-change : tie.Need-enum-known-change
 enum-known-change c = search needs
@@ -36,7 +42,7 @@ part-store-pair-end : tie.Need-part-store-pair-end
 part-store-pair-end c = search needs
 
 store-pair-requires : tie.Need-store-pair-requires
-store-pair-requires c κs = ?
+store-pair-requires c κs = let h = rw (c .before .before .change .given .1) at (c .before .before .before .before .before .pre) in simp (length-take, length-drop) (omega arith)
 
 enum-known-change-2 : tie.Need-enum-known-change-2
 enum-known-change-2 c = search needs
@@ -51,7 +57,7 @@ part-restore-end : tie.Need-part-restore-end
 part-restore-end c = search needs
 
 restore-requires : tie.Need-restore-requires
-restore-requires c κs = ?
+restore-requires c κs = let h = rw (c .before .before .change2 .given .1) at (c .before .before .before .before .before .pre) in simp (length-take, length-drop) (omega arith)
 
 returns : tie.Need-returns
 returns c = search needs
@@ -60,19 +66,30 @@ same-length : tie.Need-same-length
 same-length c = search needs
 
 returns-2 : tie.Need-returns-2
-returns-2 c = ?
+returns-2 c =
+    let a = c .before .before .before .before .before .before .before .args in
+    rw (c .before .before .before .before .enum-told2 .given .1)
+    (back-part (16 * a .first) (a .bytes .now) (c .before .before .zero .last .0) (zeroBytes (a .granules)) (c .before .before .zero .ensures))
 
 same-length-2 : tie.Need-same-length-2
 same-length-2 c = search needs
 
 returns-3 : tie.Need-returns-3
-returns-3 c = ?
+returns-3 c =
+    let a = c .before .before .before .before .before .before .before .before .args in
+    let w = c .before .before .before .before .before .change .given .0 in
+    rw (c .before .before .before .before .before .change .given .1)
+    (back-part (16 * a .first) (a .bytes .now) (c .before .before .store-pair .last .0) (pairBytes (w .0) (w .1 .0)) (c .before .before .store-pair .ensures))
 
 same-length-3 : tie.Need-same-length-3
 same-length-3 c = search needs
 
 returns-4 : tie.Need-returns-4
-returns-4 c = ?
+returns-4 c =
+    let a = c .before .before .before .before .before .before .before .before .args in
+    let w = c .before .before .before .before .before .change2 .given .0 in
+    rw (c .before .before .before .before .before .change2 .given .1)
+    (back-part (16 * a .first) (a .bytes .now) (c .before .before .restore .last .0) (savedBytes (eqb (a .granules) 2) (w .0) (w .1 .0) (w .1 .1 .0) (w .1 .1 .1 .0)) (c .before .before .restore .ensures))
 
 pub change-data-spec : {M : Type 1} → statement M
 change-data-spec =

@@ -7,7 +7,7 @@ choose-requires : tie.Need-choose-requires
 choose-requires c κs = search needs
 
 returns : tie.Need-returns
-returns c = 
+returns c =
     let a = c .before .before .args in
     (rw (c .before .if1 .taken) (c .choose .ensures), rw (c .choose .ensures) (chosen-lt (a .start) (a .offset) (a .settings .exclude) (c .before .before .pre)))
 

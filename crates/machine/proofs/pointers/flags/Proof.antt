@@ -1,3 +1,6 @@
+use Rattle.machine.proofs.Differences.{complemented, difference-flags, extended-lt}
+use Rattle.machine.specs.Pointers.{extended}
+use native.Mathlib.Omega.{arith}
 use borrow.Author.Needs.{needs}
 use Rattle.machine.proofs.pointers.flags.Statement.{statement}
 use Rattle.machine.proofs.pointers.flags.Tie as tie
@@ -24,16 +27,23 @@ mul-result : tie.Need-mul-result
 mul-result c = search needs
 
 add-result : tie.Need-add-result
-add-result c = ?
+add-result c = search needs
 
 add-result-2 : tie.Need-add-result-2
-add-result-2 c = ?
+add-result-2 c = search needs
 
 cast-result : tie.Need-cast-result
-cast-result c = ?
+cast-result c = search needs
 
 returns : tie.Need-returns
-returns c = ?
+returns c =
+    let a = c .before .before .before .before .before .before .args .a in
+    let b = c .before .before .before .before .before .before .args .b in
+    let r = c .before .before .before .wrapping-sub-u64 .result in
+    let e = rw (c .before .before .before .before .extend2 .ensures, c .before .before .before .before .before .extend .ensures) at (c .before .before .before .wrapping-sub-u64 .ensures) in
+    let carry = rw (c .before .before .before .before .extend2 .ensures, c .before .before .before .before .before .extend .ensures) at (c .flag2 .ensures .0) in
+    rw (c .before .before .field .ensures, c .before .flag .ensures .0, carry)
+    (difference-flags a b r (complemented r (extended a) (extended b) (omega arith) (extended-lt b) e))
 
 pub flags-spec : {M : Type 1} → statement M
 flags-spec =

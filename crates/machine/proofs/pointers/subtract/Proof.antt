@@ -1,3 +1,6 @@
+use Rattle.machine.proofs.Differences.{complemented, extended-lt}
+use Rattle.machine.specs.Pointers.{extended}
+use native.Mathlib.Omega.{arith}
 use borrow.Author.Needs.{needs}
 use Rattle.machine.proofs.pointers.subtract.Statement.{statement}
 use Rattle.machine.proofs.pointers.subtract.Tie as tie
@@ -12,7 +15,10 @@ wrapping-sub-u64-requires : tie.Need-wrapping-sub-u64-requires
 wrapping-sub-u64-requires c κs = search needs
 
 returns : tie.Need-returns
-returns c = ?
+returns c =
+    let a = c .before .before .before .args .a in
+    let e = rw (c .before .extend2 .ensures, c .before .before .extend .ensures) at (c .wrapping-sub-u64 .ensures) in
+    complemented (c .wrapping-sub-u64 .result) (extended a) (extended (c .before .before .before .args .b)) (omega arith) (extended-lt (c .before .before .before .args .b)) e
 
 pub subtract-spec : {M : Type 1} → statement M
 subtract-spec =

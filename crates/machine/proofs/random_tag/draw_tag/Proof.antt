@@ -10,9 +10,9 @@ choose-requires : tie.Need-choose-requires
 choose-requires c κs = search needs
 
 returns : tie.Need-returns
-returns c = 
+returns c =
     let a = c .before .before .args in
-    (cc, rw (c .choose .ensures) (chosen-lt (a .status .rgsr) (c .before .draw .result .bits) (a .mask) (c .before .before .pre)))
+    (rw (c .choose .ensures, c .before .draw .ensures), rw (c .choose .ensures) (chosen-lt (a .status .rgsr) (c .before .draw .result .bits) (a .mask) (c .before .before .pre)))
 
 pub draw-tag-spec : {M : Type 1} → statement M
 draw-tag-spec = tie.close (tie.spec draw-requires choose-requires returns)

@@ -18,7 +18,7 @@ register-effect-requires : tie.Need-register-effect-requires
 register-effect-requires c κs = search needs
 
 returns : tie.Need-returns
-returns c = ?
+returns c = cc
 
 pub effect-spec : {M : Type 1} → statement M
 effect-spec =

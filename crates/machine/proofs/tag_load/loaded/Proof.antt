@@ -1,3 +1,4 @@
+use native.Mathlib.Omega.{arith}
 use borrow.Author.Needs.{needs}
 use Rattle.machine.proofs.tag_load.loaded.Statement.{statement}
 use Rattle.machine.proofs.tag_load.loaded.Tie as tie
@@ -6,7 +7,7 @@ shared-slice-read-result : tie.Need-shared-slice-read-result
 shared-slice-read-result c = search needs
 
 returns : tie.Need-returns
-returns c = ?
+returns c = (rw (c .before .if1 .taken), omega arith)
 
 returns-2 : tie.Need-returns-2
 returns-2 c = search needs

@@ -15,7 +15,7 @@ granules-named-requires : tie.Need-granules-named-requires
 granules-named-requires c κs = search needs
 
 returns : tie.Need-returns
-returns c = ?
+returns c = cc
 
 pub effect-spec : {M : Type 1} → statement M
 effect-spec =
