@@ -80,8 +80,9 @@ pub(crate) fn add_sub(
     ensures { λ r. ⌜ r ≡ registerEffect d (addSubResult settings op (xOrSp (now (x .entry)) n) amount offset) status ⌝ }
 {
     let operand = register_file::x_or_sp(x, n);
+    let sum = moved_by(op, operand, amount);
     let chosen = choose_or_0(settings, tag_of(operand), offset as u8);
-    register_effect(d, with_tag(moved_by(op, operand, amount), chosen), status)
+    register_effect(d, with_tag(sum, chosen), status)
 }
 
 // A pointer sign-extended from bit 55.

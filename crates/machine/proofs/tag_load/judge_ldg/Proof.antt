@@ -1,5 +1,5 @@
 use Rattle.machine.proofs.Places.{place-inside}
-use mathlib.Core.Path.{sym, _∙_}
+use mathlib.Core.Path.{_≡_, sym, _∙_}
 use native.Mathlib.Omega.{arith}
 use Rattle.machine.specs.TagLoad.{ldgAddress}
 use Rattle.machine.specs.Registers.{xOrSp}
@@ -39,18 +39,18 @@ returns : tie.Need-returns
 returns c =
     let a = c .before .before .before .before .before .before .before .before .args in
     let x = a .x .now in
-    let q = rw (c .before .before .before .before .before .before .x-or-sp .ensures, c .before .before .before .before .before .address-of .ensures) at (c .before .before .before .before .place .ensures) in
     let e = ldgEffect (a .settings) x (a .status) (a .tags .now) (a .t) in
     let p = placeOf (a .settings) (length (a .tags .now)) (a .n) (xOrSp x (a .n)) (ldgAddress x (a .n) (a .amount)) false in
+    let q : c .before .before .before .before .place .result ≡ p = cc in
     accepted (c .before .before .before .before .place .result) p (c .before .before .i .given .0 .0) e (c .effect .result) q (c .before .before .i .given .1) (c .effect .ensures)
 
 returns-2 : tie.Need-returns-2
 returns-2 c =
     let a = c .before .before .before .before .before .before .before .args in
     let x = a .x .now in
-    let q = rw (c .before .before .before .before .before .x-or-sp .ensures, c .before .before .before .before .address-of .ensures) at (c .before .before .before .place .ensures) in
     let e = ldgEffect (a .settings) x (a .status) (a .tags .now) (a .t) in
     let p = placeOf (a .settings) (length (a .tags .now)) (a .n) (xOrSp x (a .n)) (ldgAddress x (a .n) (a .amount)) false in
+    let q : c .before .before .before .place .result ≡ p = cc in
     refused (c .before .before .before .place .result) p (c .before .code .given .0 .0) e q (c .before .code .given .1)
 
 pub judge-ldg-spec : {M : Type 1} → statement M
