@@ -41,7 +41,7 @@ returns c =
     let x = a .x .now in
     let e = ldgEffect (a .settings) x (a .status) (a .tags .now) (a .t) in
     let p = placeOf (a .settings) (length (a .tags .now)) (a .n) (xOrSp x (a .n)) (ldgAddress x (a .n) (a .amount)) false in
-    let q : c .before .before .before .before .place .result ≡ p = cc in
+    let q : c .before .before .before .before .place .result ≡ p = simp (c .before .before .before .before .place .ensures, c .before .before .before .before .before .address-of .ensures, c .before .before .before .before .before .before .x-or-sp .ensures) in
     accepted (c .before .before .before .before .place .result) p (c .before .before .i .given .0 .0) e (c .effect .result) q (c .before .before .i .given .1) (c .effect .ensures)
 
 returns-2 : tie.Need-returns-2
@@ -50,7 +50,7 @@ returns-2 c =
     let x = a .x .now in
     let e = ldgEffect (a .settings) x (a .status) (a .tags .now) (a .t) in
     let p = placeOf (a .settings) (length (a .tags .now)) (a .n) (xOrSp x (a .n)) (ldgAddress x (a .n) (a .amount)) false in
-    let q : c .before .before .before .place .result ≡ p = cc in
+    let q : c .before .before .before .place .result ≡ p = simp (c .before .before .before .place .ensures, c .before .before .before .before .address-of .ensures, c .before .before .before .before .before .x-or-sp .ensures) in
     refused (c .before .before .before .place .result) p (c .before .code .given .0 .0) e q (c .before .code .given .1)
 
 pub judge-ldg-spec : {M : Type 1} → statement M
