@@ -5,6 +5,9 @@ pub mod Granules
 pub mod Judgement
 pub mod Outcomes
 pub mod Places
+pub mod Ranges
 pub mod Setup
+pub mod Statuses
 pub mod StoreEffects
+pub mod WellFormed
 pub mod Within

@@ -1,5 +1,6 @@
 -- The effect of each form, or the refusal: what `judge` answers. No notion of document 01: see specs/Effects.
 use Prim.Native.Nat.{ℕ}
+use mathlib.Core.Path.{_≡_}
 use mathlib.Core.Bool.{Bool, true, false, cond}
 use mathlib.Core.List.{List}
 use lib.ListN.{length}
@@ -138,6 +139,11 @@ planOutcome (Accepted e) s = record { code = Done; state = applied e s }
 
 abbrev pub outcome : Code → Settings → List ℕ → Status → List ℕ → List ℕ → Outcome
 outcome code settings x status bytes tags = record { code = code; state = stateOf settings x status bytes tags }
+
+-- what was judged, carried out: whatever the settings, from one state to a code and another
+abbrev pub Carries : Judged → List ℕ → Status → List ℕ → List ℕ → Code → List ℕ → Status → List ℕ → List ℕ → Type 0
+Carries judged x status bytes tags code x′ status′ bytes′ tags′ =
+    (settings : Settings) → outcome code settings x′ status′ bytes′ tags′ ≡ planOutcome judged (stateOf settings x status bytes tags)
 
 -- what the functions ask: fields in range, and an effect's granules inside
 

@@ -6,7 +6,7 @@ ghost use lib.ListN.{length};
 ghost use Rattle.machine.specs.Codes.{codeNumber};
 ghost use Rattle.machine.specs.Effects.{Within, bytesAfter, tagsAfter, xAfter};
 ghost use Rattle.machine.specs.Execution.{executed, executionOf};
-ghost use Rattle.machine.specs.Plans.{JudgedWithin, decodedFits, outcome, planOf, planOutcome};
+ghost use Rattle.machine.specs.Plans.{Carries, JudgedWithin, decodedFits, outcome, planOf};
 ghost use Rattle.machine.specs.Setup.{cursorOk, setupOk, stateOk};
 ghost use Rattle.machine.specs.State.{freshOn, stateOf};
 ghost use Rattle.machine.specs.Words.{wordOutcome};
@@ -228,7 +228,6 @@ pub fn apply(x: &mut [u64; 32], e: Effect, bytes: &mut [u8], tags: &mut [u8])
 // Carries out what was judged.
 fn carry(
     x: &mut [u64; 32],
-    settings: Settings,
     status: Status,
     judged: Judged,
     bytes: &mut [u8],
@@ -236,7 +235,7 @@ fn carry(
 ) -> Performed
     requires { ⌜ JudgedWithin judged (length (now tags)) ⌝ }
     requires { ⌜ length (now bytes) ≡ 16 * length (now tags) ⌝ }
-    ensures { λ r. ⌜ outcome (r .code) settings (now (x .exit)) (r .status) (now (bytes .exit)) (now (tags .exit)) ≡ planOutcome judged (stateOf settings (now (x .entry)) status (now (bytes .entry)) (now (tags .entry))) ⌝ }
+    ensures { λ r. ⌜ Carries judged (now (x .entry)) status (now (bytes .entry)) (now (tags .entry)) (r .code) (now (x .exit)) (r .status) (now (bytes .exit)) (now (tags .exit)) ⌝ }
 {
     match judged {
         Judged::Refused(code) => Performed {
@@ -267,7 +266,7 @@ fn perform(
     ensures { λ r. ⌜ outcome (r .code) settings (now (x .exit)) (r .status) (now (bytes .exit)) (now (tags .exit)) ≡ wordOutcome true word (stateOf settings (now (x .entry)) status (now (bytes .entry)) (now (tags .entry))) ⌝ }
 {
     let judged = judge(&*x, settings, status, &tags[..], isa::decode(word));
-    carry(x, settings, status, judged, bytes, tags)
+    carry(x, status, judged, bytes, tags)
 }
 
 // Carries out one word on a machine that has no history.

@@ -1,8 +1,8 @@
-use Rattle.machine.specs.Effects.{bytesAfter, tagsAfter, xAfter}
-use mathlib.Core.Path.{_≡_}
 use Rattle.machine.proofs.Judgement.{outcome-path}
+use Rattle.machine.specs.Effects.{bytesAfter, tagsAfter, xAfter}
 use Rattle.machine.specs.Plans.{planOutcome}
 use Rattle.machine.specs.declared.Code.the-variants.{Done}
+use mathlib.Core.Path.{_≡_}
 use borrow.Author.Needs.{needs}
 use Rattle.machine.proofs.carry.Statement.{statement}
 use Rattle.machine.proofs.carry.Tie as tie
@@ -18,7 +18,7 @@ apply-requires c κs = (rw (c .before .before .before .before .judged2 .given .1
 
 returns : tie.Need-returns
 unfolding planOutcome
-returns c = rw (c .before .judged .given .1)
+returns c = λ settings. rw (c .before .judged .given .1)
 
 same-length : tie.Need-same-length
 same-length c = search needs
@@ -28,13 +28,13 @@ same-length-2 c = search needs
 
 returns-2 : tie.Need-returns-2
 unfolding planOutcome
-returns-2 c =
+returns-2 c = 
     let a = c .before .before .before .before .before .before .before .before .before .before .before .before .before .before .args in
     let f = c .before .before .before .before .before .before .before .before .before .before .judged2 .given .0 .0 in
     let x : c .before .before .before .before .before .apply .last .0 ≡ xAfter f (a .x .now) = c .before .before .before .before .before .apply .ensures .0 in
     let bytes : c .before .before .before .before .before .apply .last .1 .1 .0 ≡ bytesAfter f (a .bytes .now) = c .before .before .before .before .before .apply .ensures .1 .0 in
     let tags : c .before .before .before .before .before .apply .last .1 .1 .1 .0 ≡ tagsAfter f (a .tags .now) = c .before .before .before .before .before .apply .ensures .1 .1 in
-    rw (c .before .before .before .before .before .before .before .before .before .before .judged2 .given .1) (outcome-path Done (a .settings) (f .status) x bytes tags)
+    λ settings. rw (c .before .before .before .before .before .before .before .before .before .before .judged2 .given .1) (outcome-path Done settings (f .status) x bytes tags)
 
 pub carry-spec : {M : Type 1} → statement M
 carry-spec =

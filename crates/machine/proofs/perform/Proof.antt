@@ -41,7 +41,7 @@ returns c =
     let a = c .before .before .before .before .before .before .before .before .before .before .before .before .before .before .args in
     let s = stateOf (a .settings) (a .x .now) (a .status) (a .bytes .now) (a .tags .now) in
     let j = rw (c .before .before .before .before .before .before .before .before .before .decode .ensures) at (c .before .before .before .before .before .before .before .before .judge .ensures) in
-    c .before .before .before .before .carry .ensures ∙ ap (λ (p : Judged). planOutcome p s) j ∙ plan-outcome s (decodeOf (a .word)) (c .before .before .before .before .before .before .before .before .before .before .before .before .before .before .pre)
+    c .before .before .before .before .carry .ensures (a .settings) ∙ ap (λ (p : Judged). planOutcome p s) j ∙ plan-outcome s (decodeOf (a .word)) (c .before .before .before .before .before .before .before .before .before .before .before .before .before .before .pre)
 
 pub perform-spec : {M : Type 1} → statement M
 perform-spec =
