@@ -1,0 +1,57 @@
+-- `replay::answers::put_registers` is safe and ends: what is filled of the buffer lies within it. Assumes nothing.
+use borrow.Author.Needs.{needs}
+use mathlib.Core.Path.{_≡_}
+use Prim.Native.Nat.{_-_}
+use lib.ListN.{length}
+use Rattle.replay.specs.Buffer.{Filled}
+use Rattle.replay.proofs.answers.put_registers.Statement.{statement}
+use Rattle.replay.proofs.answers.put_registers.Tie as tie
+
+abbrev Inv-loop : tie.InvT-loop
+Inv-loop out₀ filled registers n₀ i₀ out n i = (Filled n out) × (length out ≡ length out₀)
+
+abbrev μ-loop : tie.MeasureT-loop
+μ-loop out₀ filled registers n₀ i₀ out n i = 32 - i
+
+loop-holds : tie.Need-loop-holds Inv-loop μ-loop
+loop-holds c = search needs
+
+mul-v : tie.Need-mul-v Inv-loop μ-loop
+mul-v c = search needs
+
+element-copy-out-v : tie.Need-element-copy-out-v Inv-loop μ-loop
+element-copy-out-v c = search needs
+
+put-unless-zero-requires : tie.Need-put-unless-zero-requires Inv-loop μ-loop
+put-unless-zero-requires c κs = search needs
+
+add-i : tie.Need-add-i Inv-loop μ-loop
+add-i c = search needs
+
+loop-less : tie.Need-loop-less Inv-loop μ-loop
+loop-less c = search needs
+
+loop-again : tie.Need-loop-again Inv-loop μ-loop
+loop-again c = search needs
+
+same-length : tie.Need-same-length Inv-loop μ-loop
+same-length c = search needs
+
+returns : tie.Need-returns Inv-loop μ-loop
+returns c = search needs
+
+pub put-registers-spec : {M : Type 1} → statement M
+put-registers-spec =
+    tie.close
+    (tie.spec
+    Inv-loop
+    μ-loop
+    loop-holds
+    mul-v
+    element-copy-out-v
+    put-unless-zero-requires
+    add-i
+    loop-less
+    loop-again
+    same-length
+    returns)

@@ -1,0 +1,212 @@
+// What is written after a line: the answer of a call, and the state.
+use super::forms;
+use super::kinds;
+use super::lines::Line;
+use super::numbers::at_most;
+use super::numbers::low_byte;
+use super::numbers::low_half;
+use super::numbers::low_word;
+use super::world::World;
+use super::writer::put_line;
+use isa::Decoded;
+ghost use Rattle.replay.specs.Buffer.{Filled};
+
+fn put_one(out: &mut [u8], filled: usize, kind: u64, a: u64) -> usize
+    requires { ⌜ Filled filled (now out) ⌝ }
+    ensures { λ r. ⌜ Filled r (now (out .exit)) ⌝ }
+{
+    put_line(out, filled, Line::of(kind, [a, 0, 0, 0, 0]))
+}
+
+fn put_two(out: &mut [u8], filled: usize, kind: u64, a: u64, b: u64) -> usize
+    requires { ⌜ Filled filled (now out) ⌝ }
+    ensures { λ r. ⌜ Filled r (now (out .exit)) ⌝ }
+{
+    put_line(out, filled, Line::of(kind, [a, b, 0, 0, 0]))
+}
+
+// Puts the line of a register or a byte that is not zero.
+fn put_unless_zero(out: &mut [u8], filled: usize, kind: u64, index: usize, value: u64) -> usize
+    requires { ⌜ Filled filled (now out) ⌝ }
+    ensures { λ r. ⌜ Filled r (now (out .exit)) ⌝ }
+{
+    if value == 0 {
+        filled
+    } else {
+        put_two(out, filled, kind, index as u64, value)
+    }
+}
+
+fn wide(b: u8) -> u64 {
+    b as u64
+}
+
+fn flag(b: bool) -> u64 {
+    if b { 1 } else { 0 }
+}
+
+// The number that the state has for a kind of line of one number.
+fn state_number(world: World, kind: u64) -> u64 {
+    match kind {
+        kinds::FRESH => world.machine.settings.base,
+        kinds::ACCESS => flag(world.machine.settings.access),
+        kinds::EXCLUDE => world.machine.settings.exclude as u64,
+        kinds::NZCV => world.machine.registers.status.nzcv as u64,
+        kinds::RGSR => world.machine.registers.status.rgsr as u64,
+        kinds::SEED => world.machine.registers.status.seed as u64,
+        kinds::NEXT => world.machine.cursor.next as u64,
+        kinds::HELD => world.machine.cursor.held as u64,
+        kinds::TAGS => world.tags as u64,
+        _ => world.data as u64,
+    }
+}
+
+// Puts the ten lines that every state has.
+fn put_front(world: World, out: &mut [u8], filled: usize) -> usize
+    requires { ⌜ Filled filled (now out) ⌝ }
+    ensures { λ r. ⌜ Filled r (now (out .exit)) ⌝ }
+{
+    let mut n = filled;
+    let mut kind = kinds::FRESH;
+    while kind <= kinds::DATA {
+        n = put_one(out, n, kind, state_number(world, kind));
+        kind += 1;
+    }
+    n
+}
+
+// Puts a line for each register that is not zero.
+fn put_registers(world: World, out: &mut [u8], filled: usize) -> usize
+    requires { ⌜ Filled filled (now out) ⌝ }
+    ensures { λ r. ⌜ Filled r (now (out .exit)) ⌝ }
+{
+    let registers = world.machine.registers;
+    let mut n = filled;
+    let mut i = 0;
+    while i < 32 {
+        let v = registers.x[i];
+        n = put_unless_zero(out, n, kinds::X, i, v);
+        i += 1;
+    }
+    n
+}
+
+// Puts a line of a kind for each of the first `count` bytes that is not zero.
+fn put_bytes(bytes: &[u8], count: usize, kind: u64, out: &mut [u8], filled: usize) -> usize
+    requires { ⌜ Filled filled (now out) ⌝ }
+    ensures { λ r. ⌜ Filled r (now (out .exit)) ⌝ }
+{
+    let end = at_most(count, bytes.len());
+    let mut n = filled;
+    let mut i = 0;
+    while i < end {
+        n = put_unless_zero(out, n, kind, i, wide(bytes[i]));
+        i += 1;
+    }
+    n
+}
+
+fn put_state(world: World, tags: &[u8], data: &[u8], out: &mut [u8], filled: usize) -> usize
+    requires { ⌜ Filled filled (now out) ⌝ }
+    ensures { λ r. ⌜ Filled r (now (out .exit)) ⌝ }
+{
+    let a = put_front(world, out, filled);
+    let b = put_registers(world, out, a);
+    let c = put_bytes(tags, world.tags, kinds::TAG, out, b);
+    put_bytes(data, world.data, kinds::BYTE, out, c)
+}
+
+fn put_code(world: World, tags: &[u8], data: &[u8], out: &mut [u8], filled: usize) -> usize
+    requires { ⌜ Filled filled (now out) ⌝ }
+    ensures { λ r. ⌜ Filled r (now (out .exit)) ⌝ }
+{
+    let n = put_one(out, filled, kinds::CODE, world.code as u64);
+    if world.dump {
+        put_state(world, tags, data, out, n)
+    } else {
+        n
+    }
+}
+
+fn put_decoded(word: u64, out: &mut [u8], filled: usize) -> usize
+    requires { ⌜ Filled filled (now out) ⌝ }
+    ensures { λ r. ⌜ Filled r (now (out .exit)) ⌝ }
+{
+    let decoded = isa::decode(low_word(word));
+    let n = put_one(out, filled, kinds::DECODED, decoded.number() as u64);
+    match decoded {
+        Decoded::Is(form) => put_line(out, n, forms::line_of(form)),
+        Decoded::Undefined => n,
+    }
+}
+
+fn put_encoded(line: Line, out: &mut [u8], filled: usize) -> usize
+    requires { ⌜ Filled filled (now out) ⌝ }
+    ensures { λ r. ⌜ Filled r (now (out .exit)) ⌝ }
+{
+    let values = line.values;
+    let encoded = isa::encode(forms::form_of(line.kind, values));
+    put_two(
+        out,
+        filled,
+        kinds::ENCODED,
+        encoded.number() as u64,
+        encoded.word() as u64,
+    )
+}
+
+fn put_chosen(v: [u64; 5], out: &mut [u8], filled: usize) -> usize
+    requires { ⌜ Filled filled (now out) ⌝ }
+    ensures { λ r. ⌜ Filled r (now (out .exit)) ⌝ }
+{
+    let start = low_byte(v[0]) % 16;
+    let offset = low_byte(v[1]);
+    let mask = low_half(v[2]);
+    put_one(
+        out,
+        filled,
+        kinds::CHOSEN,
+        tag::choose(start, offset, mask) as u64,
+    )
+}
+
+fn put_drawn(seed: u64, out: &mut [u8], filled: usize) -> usize
+    requires { ⌜ Filled filled (now out) ⌝ }
+    ensures { λ r. ⌜ Filled r (now (out .exit)) ⌝ }
+{
+    let drawn = tag::draw(low_half(seed));
+    put_two(
+        out,
+        filled,
+        kinds::DRAWN,
+        drawn.bits as u64,
+        drawn.seed as u64,
+    )
+}
+
+// Puts what a line answers in the world that it leaves.
+pub(crate) fn put_answer(
+    world: World,
+    line: Line,
+    tags: &[u8],
+    data: &[u8],
+    out: &mut [u8],
+    filled: usize,
+) -> usize
+    requires { ⌜ Filled filled (now out) ⌝ }
+    ensures { λ r. ⌜ Filled r (now (out .exit)) ⌝ }
+{
+    let kind = line.kind;
+    let values = line.values;
+    if kinds::ADDG <= kind {
+        return put_encoded(line, out, filled);
+    }
+    match kind {
+        kinds::WORD => put_code(world, tags, data, out, filled),
+        kinds::SHOW => put_state(world, tags, data, out, filled),
+        kinds::DECODE => put_decoded(values[0], out, filled),
+        kinds::CHOOSE => put_chosen(values, out, filled),
+        kinds::DRAW => put_drawn(values[0], out, filled),
+        _ => filled,
+    }
+}

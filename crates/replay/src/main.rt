@@ -1,0 +1,97 @@
+// Plays a script from standard input on the machine and writes what each call answers and the state (docs/MANUAL.md,
+// "Replaying a script").
+use lines::Line;
+use world::MOST_DATA;
+use world::MOST_TAGS;
+ghost use Prim.Native.Nat.{_≤_};
+ghost use lib.ListN.{length};
+
+mod answers;
+mod forms;
+mod kinds;
+mod lines;
+mod numbers;
+mod reader;
+mod world;
+mod writer;
+
+// One byte more than the longest script has, so that a longer one is seen.
+const ROOM: usize = 0x40_0001;
+
+// The number of a script's first wrong line, or 0 where it has none.
+fn first_wrong_line(s: &[u8]) -> usize {
+    let mut at = 0;
+    let mut right = 0;
+    loop {
+        let line = reader::read(s, at);
+        if line.next <= at {
+            break;
+        }
+        at = line.next;
+        right += 1;
+    }
+    if at < s.len() { right + 1 } else { 0 }
+}
+
+// Writes the number of a wrong line, or 0 for a script that is too long.
+fn write_bad(number: usize, out: &mut [u8])
+    requires { ⌜ 128 ≤ length (now out) ⌝ }
+{
+    let line = Line::of(kinds::BAD, [number as u64, 0, 0, 0, 0]);
+    let n = writer::put_line(out, 0, line);
+    io::write_all(1, &out[..n]);
+}
+
+// Plays a script that has no wrong line.
+fn play(s: &[u8], tags: &mut [u8], data: &mut [u8], out: &mut [u8])
+    requires { ⌜ 128 ≤ length (now out) ⌝ }
+{
+    let mut world = world::fresh(0, true);
+    let mut filled = 0;
+    let mut at = 0;
+    loop {
+        let line = reader::read(s, at);
+        if line.next <= at {
+            break;
+        }
+        world = world::after(world, line, tags, data);
+        filled = answers::put_answer(world, line, tags, data, out, filled);
+        at = line.next;
+    }
+    io::write_all(1, &out[..filled]);
+}
+
+fn replay(input: &mut [u8], tags: &mut [u8], data: &mut [u8], out: &mut [u8])
+    requires { ⌜ 128 ≤ length (now out) ⌝ }
+{
+    let n = io::read_full(0, input);
+    if n == input.len() {
+        write_bad(0, out);
+        return;
+    }
+    let script = &input[..n];
+    let wrong = first_wrong_line(script);
+    if wrong == 0 {
+        play(script, tags, data, out);
+    } else {
+        write_bad(wrong, out);
+    }
+}
+
+// Lends the arrays as slices, here where their types say how long they are.
+fn lend(
+    input: &mut [u8; ROOM],
+    tags: &mut [u8; MOST_TAGS],
+    data: &mut [u8; MOST_DATA],
+    out: &mut [u8; 65536],
+) {
+    replay(input, tags, data, out);
+}
+
+fn main() {
+    let mut input = [0u8; ROOM];
+    let mut tags = [0u8; MOST_TAGS];
+    let mut data = [0u8; MOST_DATA];
+    let mut out = [0u8; 65536];
+    lend(&mut input, &mut tags, &mut data, &mut out);
+}

@@ -1,0 +1,21 @@
+// Numbers brought into a range. No line that is played and no row of the table has a number that these change; without them
+// that would have to be proved.
+ghost use Prim.Native.Nat.{_≤_};
+
+pub(crate) fn at_most(n: usize, most: usize) -> usize
+    ensures { λ r. ⌜ r ≤ most ⌝ }
+{
+    if n < most { n } else { most }
+}
+
+pub(crate) fn low_byte(v: u64) -> u8 {
+    (v % 0x100) as u8
+}
+
+pub(crate) fn low_half(v: u64) -> u16 {
+    (v % 0x1_0000) as u16
+}
+
+pub(crate) fn low_word(v: u64) -> u32 {
+    (v % 0x1_0000_0000) as u32
+}

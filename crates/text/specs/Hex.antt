@@ -1,0 +1,26 @@
+-- Numbers of a fixed count of lower-case hex digits, read and written.
+use Prim.Native.Nat.{ℕ, zero, suc, _+_, _-_, _*_, _/_, _%_}
+use mathlib.Core.Bool.{cond}
+use mathlib.Core.List.{List, [], _∷_, _++_}
+use lib.Dec.{ltb, leb}
+use Rattle.text.specs.declared.Hex.{Hex}
+use Rattle.text.specs.declared.Hex.the-variants.{Value, NotHex}
+
+-- the number of a digit, '0' to '9' (48 to 57) and 'a' to 'f' (97 to 102), and 16 of any other byte
+unfoldable pub valueOf : ℕ → ℕ
+valueOf b = cond (ltb b 48) 16 (cond (leb b 57) (b - 48) (cond (ltb b 97) 16 (cond (leb b 102) (b - 87) 16)))
+
+-- the digit of a number below 16
+unfoldable pub digitOf : ℕ → ℕ
+digitOf v = cond (ltb v 10) (48 + v) (87 + v)
+
+-- the number that the list's first n bytes spell, behind digits that spell v
+unfoldable pub readHex : ℕ → ℕ → List ℕ → Hex
+readHex zero v l = Value v
+readHex (suc n) v [] = NotHex
+readHex (suc n) v (b ∷ l) = cond (ltb (valueOf b) 16) (readHex n (v * 16 + valueOf b) l) NotHex
+
+-- the last n hex digits of v, the most significant first
+unfoldable pub hexDigits : ℕ → ℕ → List ℕ
+hexDigits zero v = []
+hexDigits (suc n) v = hexDigits n (v / 16) ++ (digitOf (v % 16) ∷ [])
