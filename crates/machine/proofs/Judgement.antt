@@ -17,11 +17,11 @@ use Rattle.machine.specs.declared.Judged.the-variants.{Refused, Accepted
 use Rattle.machine.specs.Plans.{accept, decodedFits, outcome}
 
 -- an access that was placed, or refused: p is what the function answered and q what the definition says
-pub accepted : (p q : Placed) (i : ℕ) (e : ℕ → Effect) (f : Effect) → p ≡ q → p ≡ First i → f ≡ e i → Accepted f ≡ accept q e
-accepted p q i e f same at is = ap Accepted is ∙ ap (λ (r : Placed). accept r e) (sym at ∙ same)
+pub placed-accepted : (p q : Placed) (i : ℕ) (e : ℕ → Effect) (f : Effect) → p ≡ q → p ≡ First i → f ≡ e i → Accepted f ≡ accept q e
+placed-accepted p q i e f same at is = ap Accepted is ∙ ap (λ (r : Placed). accept r e) (sym at ∙ same)
 
-pub refused : (p q : Placed) (code : Code) (e : ℕ → Effect) → p ≡ q → p ≡ Nowhere code → Refused code ≡ accept q e
-refused p q code e same at = ap (λ (r : Placed). accept r e) (sym at ∙ same)
+pub placed-refused : (p q : Placed) (code : Code) (e : ℕ → Effect) → p ≡ q → p ≡ Nowhere code → Refused code ≡ accept q e
+placed-refused p q code e same at = ap (λ (r : Placed). accept r e) (sym at ∙ same)
 
 -- the fields of a decoded word are in range
 pub fits : (w : ℕ) → decodedFits (decodeOf w) ≡ true

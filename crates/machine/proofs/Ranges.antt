@@ -1,17 +1,19 @@
 -- The numbers of an accepted word's effect are in range. Assumes nothing.
-use Prim.Native.Nat.{ℕ, _+_, _*_, _/_, _%_, _^_, _≤_, _<_}
+use Prim.Native.Nat.{ℕ, zero, suc, _+_, _*_, _/_, _%_, _^_, _≤_, _<_}
 use mathlib.Core.Bool.{Bool, true, false}
-use mathlib.Core.List.{List}
+use mathlib.Core.List.{List, [], _∷_, _++_}
 use mathlib.Core.Path.{_≡_, subst}
 use native.Mathlib.Nat.{mod-lt, mod-le}
 use native.Mathlib.Omega.{arith}
 use lib.Bits.{bitOr, or-lt}
 use lib.Dec.{eqb, ltb}
-use lib.ListN.{length, getD}
+use lib.ListN.{length, getD, replicate}
 use Rattle.bits.specs.Fields.{bitsAt, withBits}
+use Rattle.bits.specs.LittleEndian.{lowBytes, bytesOf}
 use Rattle.bits.proofs.Fields.{field-lt, shift-or}
 use Rattle.tag.proofs.TagChoice.{chosen-lt}
 use Rattle.tag.proofs.RandomBits.{seed-lt}
+use Rattle.memory.specs.Stores.{pairBytes, savedBytes}
 use Rattle.isa.specs.declared.Mode.{Mode}
 use Rattle.isa.specs.declared.Mode.the-variants.{Post, Pre, Offset}
 use Rattle.isa.specs.declared.AddSubOp.{AddSubOp}
@@ -41,11 +43,11 @@ use Rattle.machine.specs.Pointers.{tagOf, withTag, moved, chosenOr0}
 use Rattle.machine.specs.RandomTag.{irgTag, irgMask}
 use Rattle.machine.specs.TagLoad.{loadedTag, ldgAddress}
 use Rattle.machine.specs.TagStores.{isPair}
-use Rattle.machine.specs.Effects.{Within}
-use Rattle.machine.specs.Plans.{registerEffect, storeEffect, ldgEffect, writebackTo, zeroing, accept, placeOf, formPlan, planOf, decodedFits, JudgedWithin}
+use Rattle.machine.specs.Effects.{newBytes, Within}
+use Rattle.machine.specs.Plans.{registerEffect, storeEffect, ldgEffect, writebackTo, zeroing, accept, placeOf, formPlan, planOf, decodedFits, JudgedWithin, IfAccepted}
 use Rattle.machine.proofs.Setup.{state-sized, state-status}
 use Rattle.machine.proofs.Statuses.{cond-lt, random-tag-lt, plan-status}
-use Rattle.machine.proofs.Within.{IfAccepted, accepted, plan-within}
+use Rattle.machine.proofs.Within.{accepted, plan-within}
 
 pub record StatusInRange (status : Status) : Type 0 where
   pub nzcv : status .nzcv ≤ 15
@@ -65,10 +67,45 @@ pub record NumbersInRange (e : Effect) : Type 0 where
   pub second : e .second < 16
   pub words : WordsInRange (e .change)
 
+abbrev pub Bytes : List ℕ → Type 0
+Bytes l = (i : ℕ) → getD l i 0 < 256
+
 pub record InRange (e : Effect) (g : ℕ) : Type 0 where
+  pub bytes : Bytes (newBytes (e .change) (e .granules))
   pub numbers : NumbersInRange e
   pub status : StatusInRange (e .status)
   pub within : Within e g
+
+-- the bytes that a change writes are bytes
+
+append-bytes : (l m : List ℕ) → Bytes l → Bytes m → Bytes (l ++ m)
+append-bytes [] m p q i = q i
+append-bytes (b ∷ l) m p q zero = p zero
+append-bytes (b ∷ l) m p q (suc i) = append-bytes l m (λ j. p (suc j)) q i
+
+low-bytes : (n v : ℕ) → Bytes (lowBytes n v)
+unfolding lowBytes
+low-bytes zero v i = omega arith
+low-bytes (suc n) v zero = mod-lt v (omega arith)
+low-bytes (suc n) v (suc i) = low-bytes n (v / 256) i
+
+zero-bytes : (n : ℕ) → Bytes (replicate n 0)
+zero-bytes zero i = omega arith
+zero-bytes (suc n) zero = omega arith
+zero-bytes (suc n) (suc i) = zero-bytes n i
+
+pair-bytes : (low high : ℕ) → Bytes (pairBytes low high)
+pair-bytes low high = append-bytes (bytesOf low) (bytesOf high) (low-bytes 8 low) (low-bytes 8 high)
+
+saved-bytes : (pair : Bool) (a b c d : ℕ) → Bytes (savedBytes pair a b c d)
+saved-bytes true a b c d = append-bytes (pairBytes a b) (pairBytes c d) (pair-bytes a b) (pair-bytes c d)
+saved-bytes false a b c d = pair-bytes a b
+
+new-bytes : (change : Change) (n : ℕ) → Bytes (newBytes change n)
+new-bytes Keep n = λ i. omega arith
+new-bytes Zero n = zero-bytes (16 * n)
+new-bytes (Pair low high) n = pair-bytes low high
+new-bytes (Words a b c d) n = saved-bytes (eqb n 2) a b c d
 
 -- bounds of numbers
 
@@ -171,6 +208,7 @@ plan-in-range s decoded e ok small seed fits p =
     let sizes = state-sized (s .settings) status (length (s .bytes)) (length (s .tags)) ok in
     let (nzcv, rgsr) = state-status (s .settings) status (length (s .bytes)) (length (s .tags)) ok in
     record {
+      bytes = new-bytes (e .change) (e .granules);
       numbers = subst (IfAccepted NumbersInRange) p (plan-numbers (s .settings) (s .registers .x) status (s .tags) small rgsr decoded fits);
       status =
           subst (IfAccepted (λ e. StatusInRange (e .status))) p

@@ -22,8 +22,8 @@ use Rattle.machine.specs.Pointers.{tagOf, extended, sumWithCarry, signed
 use Rattle.machine.specs.RandomTag.{randomTag, afterDraw, irgMask}
 use Rattle.machine.specs.TagLoad.{ldgAddress}
 use Rattle.machine.specs.TagStores.{isPair}
-use Rattle.machine.specs.Plans.{placeOf, ldgEffect, storeEffect, zeroing, formPlan, planOf}
-use Rattle.machine.proofs.Within.{IfAccepted, accepted}
+use Rattle.machine.specs.Plans.{placeOf, ldgEffect, storeEffect, zeroing, formPlan, planOf, IfAccepted}
+use Rattle.machine.proofs.Within.{accepted}
 
 pub cond-lt : (t : Bool) {a b m : ℕ} → a < m → b < m → cond t a b < m
 cond-lt true h k = h

@@ -18,10 +18,9 @@ use Rattle.machine.specs.Registers.{written}
 use Rattle.machine.specs.Pointers.{withNzcv}
 use Rattle.machine.specs.RandomTag.{afterDraw}
 use Rattle.machine.specs.Words.{Outcome, wordOutcome}
-use Rattle.machine.specs.Plans.{planOf, planOutcome}
+use Rattle.machine.specs.Plans.{planOf, planOutcome, IfAccepted}
 use Rattle.machine.proofs.Setup.{state-sizes, state-status}
 use Rattle.machine.proofs.Outcomes.{plan-outcome}
-use Rattle.machine.proofs.Within.{IfAccepted}
 use Rattle.machine.proofs.Statuses.{random-tag-lt, plan-status}
 
 -- a state with the settings and the sizes of another

@@ -22,22 +22,16 @@ use Rattle.machine.specs.declared.Change.{Change}
 use Rattle.machine.specs.declared.Effect.{Effect}
 use Rattle.machine.specs.declared.Placed.{Placed}
 use Rattle.machine.specs.declared.Placed.the-variants.{First, Nowhere}
-use Rattle.machine.specs.declared.Judged.{Judged}
-use Rattle.machine.specs.declared.Judged.the-variants.{Refused, Accepted}
 use Rattle.machine.specs.Setup.{stateOk}
 use Rattle.machine.specs.Registers.{xOrSp}
 use Rattle.machine.specs.TagLoad.{ldgAddress}
 use Rattle.machine.specs.TagStores.{isPair}
 use Rattle.machine.specs.Effects.{room, Within}
-use Rattle.machine.specs.Plans.{registerEffect, ldgEffect, storeEffect, zeroing, accept, placeOf, formPlan, planOf, JudgedWithin}
+use Rattle.machine.specs.Plans.{registerEffect, ldgEffect, storeEffect, zeroing, accept, placeOf, formPlan, planOf, IfAccepted, JudgedWithin}
 use Rattle.machine.proofs.Setup.{state-sizes}
 use Rattle.machine.proofs.Places.{place-inside}
 
--- what holds of the effect, if it was accepted
-abbrev pub IfAccepted : (Effect → Type 0) → Judged → Type 0
-IfAccepted P (Refused code) = Unit {0}
-IfAccepted P (Accepted e) = P e
-
+-- what holds of every effect that a plan can have holds of its effect
 pub accepted : (P : Effect → Type 0) (p : Placed) (e : ℕ → Effect) → ((i : ℕ) → p ≡ First i → P (e i)) → IfAccepted P (accept p e)
 accepted P (First i) e f = f i refl
 accepted P (Nowhere code) e f = tt
@@ -82,12 +76,8 @@ module _ (settings : Settings) (x : List ℕ) (status : Status) (tags : List ℕ
   form-within (TagStore op mode t n amount) = store-within mode n amount _ _ (isPair op) _ (zeroing op) (zeroing-room op)
   form-within (Stgp mode t t2 n amount) = store-within mode n amount _ _ false _ _ (omega arith)
 
-judged-within : (g : ℕ) (j : Judged) → IfAccepted (λ e. Within e g) j → JudgedWithin j g
-judged-within g (Refused code) h = h
-judged-within g (Accepted e) h = h
-
 pub plan-within : (settings : Settings) (x : List ℕ) (status : Status) (tags : List ℕ) (decoded : Decoded)
     → stateOk settings status (16 * length tags) (length tags) ≡ true → JudgedWithin (planOf settings x status tags decoded) (length tags)
 unfolding planOf
-plan-within settings x status tags (Is f) ok = judged-within (length tags) (formPlan settings x status tags f) (form-within settings x status tags ok f)
+plan-within settings x status tags (Is f) ok = form-within settings x status tags ok f
 plan-within settings x status tags NoForm ok = tt

@@ -1,5 +1,5 @@
 -- Effects: what an accepted word changes, as plain data. They are no notion of document 01, and no public contract of a word
--- speaks of them: proofs/Effects has the law that the effect of a word leaves the state of specs/Words.
+-- speaks of them: proofs/Outcomes has the law that the effect of a word leaves the state of specs/Words.
 use Prim.Native.Nat.{ℕ, _+_, _*_, _≤_}
 use mathlib.Core.Path.{_≡_}
 use mathlib.Core.Bool.{Bool, true, cond}

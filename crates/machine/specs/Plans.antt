@@ -32,6 +32,7 @@ use Rattle.machine.specs.declared.Judged.{Judged}
 use Rattle.machine.specs.declared.Judged.the-variants.{Refused, Accepted}
 use Rattle.machine.specs.State.{State, stateOf}
 use Rattle.machine.specs.Registers.{xOrSp, xOrZero, orNone}
+use Rattle.machine.specs.Codes.{codeNumber}
 use Rattle.machine.specs.Accesses.{addressOf, spMisaligned, misaligned}
 use Rattle.machine.specs.Pointers.{tagOf, withTag, addSubResult, difference, differenceFlags, withNzcv, withTagBit}
 use Rattle.machine.specs.RandomTag.{irgTag, irgStatus, irgMask}
@@ -132,6 +133,11 @@ unfoldable pub planOf : Settings → List ℕ → Status → List ℕ → Decode
 planOf settings x status tags (Is f) = formPlan settings x status tags f
 planOf settings x status tags NoForm = Refused Undefined
 
+-- the code of what was judged
+abbrev pub judgedCode : Judged → ℕ
+judgedCode (Refused code) = codeNumber code
+judgedCode (Accepted e) = codeNumber Done
+
 -- the outcome of a plan
 unfoldable pub planOutcome : Judged → State → Outcome
 planOutcome (Refused code) s = record { code = code; state = s }
@@ -151,6 +157,9 @@ abbrev pub decodedFits : Decoded → Bool
 decodedFits (Is f) = fieldsFit f
 decodedFits NoForm = true
 
+abbrev pub IfAccepted : (Effect → Type 0) → Judged → Type 0
+IfAccepted P (Refused code) = Unit {0}
+IfAccepted P (Accepted e) = P e
+
 abbrev pub JudgedWithin : Judged → ℕ → Type 0
-JudgedWithin (Refused code) g = Unit {0}
-JudgedWithin (Accepted e) g = Within e g
+JudgedWithin judged g = IfAccepted (λ e. Within e g) judged

@@ -6,7 +6,7 @@ ghost use lib.ListN.{length};
 ghost use Rattle.machine.specs.Codes.{codeNumber};
 ghost use Rattle.machine.specs.Effects.{Within, bytesAfter, tagsAfter, xAfter};
 ghost use Rattle.machine.specs.Execution.{executed, executionOf};
-ghost use Rattle.machine.specs.Plans.{Carries, JudgedWithin, decodedFits, outcome, planOf};
+ghost use Rattle.machine.specs.Plans.{Carries, JudgedWithin, decodedFits, judgedCode, outcome, planOf};
 ghost use Rattle.machine.specs.Setup.{cursorOk, setupOk, stateOk};
 ghost use Rattle.machine.specs.State.{freshOn, stateOf};
 ghost use Rattle.machine.specs.Words.{wordOutcome};
@@ -89,7 +89,7 @@ pub struct Effect {
 }
 
 // The first granule that an access names, or its refusal.
-pub enum Placed {
+pub(crate) enum Placed {
     First(usize),
     Nowhere(Code),
 }
@@ -126,6 +126,18 @@ impl Code {
             Code::NoHistory => 6,
             Code::BadRecord => 7,
             Code::Field => 8,
+        }
+    }
+}
+
+impl Judged {
+    // The code: 0 DONE for an effect.
+    pub fn number(self) -> u32
+        ensures { λ r. ⌜ r ≡ judgedCode self ⌝ }
+    {
+        match self {
+            Judged::Refused(code) => code.number(),
+            Judged::Accepted(_) => 0,
         }
     }
 }

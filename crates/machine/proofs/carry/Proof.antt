@@ -28,7 +28,7 @@ same-length-2 c = search needs
 
 returns-2 : tie.Need-returns-2
 unfolding planOutcome
-returns-2 c = 
+returns-2 c =
     let a = c .before .before .before .before .before .before .before .before .before .before .before .before .before .before .args in
     let f = c .before .before .before .before .before .before .before .before .before .before .judged2 .given .0 .0 in
     let x : c .before .before .before .before .before .apply .last .0 ≡ xAfter f (a .x .now) = c .before .before .before .before .before .apply .ensures .0 in

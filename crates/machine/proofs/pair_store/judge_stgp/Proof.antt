@@ -5,7 +5,7 @@ use Rattle.machine.specs.Plans.{placeOf, storeEffect}
 use Rattle.machine.specs.declared.Change.the-variants.{Pair}
 use Rattle.machine.specs.Accesses.{addressOf}
 use mathlib.Core.Bool.{false}
-use Rattle.machine.proofs.Judgement.{accepted, refused}
+use Rattle.machine.proofs.Judgement.{placed-accepted, placed-refused}
 use borrow.Author.Needs.{needs}
 use Rattle.machine.proofs.pair_store.judge_stgp.Statement.{statement}
 use Rattle.machine.proofs.pair_store.judge_stgp.Tie as tie
@@ -47,7 +47,7 @@ returns c =
     let q : c .before .before .before .before .before .before .before .place .result ≡ p = simp (c .before .before .before .before .before .before .before .place .ensures, c .before .before .before .before .before .before .before .before .address-of .ensures, c .before .before .before .before .before .before .before .before .before .x-or-sp .ensures) in
     let f : c .effect .result ≡ e (c .before .before .before .before .before .i .given .0 .0) =
     simp (c .effect .ensures, c .before .tag-of .ensures .0, c .before .before .x-or-zero2 .ensures, c .before .before .before .x-or-zero .ensures, c .before .before .before .before .before .before .before .before .address-of .ensures, c .before .before .before .before .before .before .before .before .before .x-or-sp .ensures) in
-    accepted (c .before .before .before .before .before .before .before .place .result) p (c .before .before .before .before .before .i .given .0 .0) e (c .effect .result) q (c .before .before .before .before .before .i .given .1) f
+    placed-accepted (c .before .before .before .before .before .before .before .place .result) p (c .before .before .before .before .before .i .given .0 .0) e (c .effect .result) q (c .before .before .before .before .before .i .given .1) f
 
 returns-2 : tie.Need-returns-2
 returns-2 c =
@@ -57,7 +57,7 @@ returns-2 c =
     let e = storeEffect (a .settings) x (a .status) (a .mode) (a .n) (a .amount) false (tagOf address) (Pair (xOrZero x (a .t)) (xOrZero x (a .t2))) in
     let p = placeOf (a .settings) (a .granules) (a .n) (xOrSp x (a .n)) address false in
     let q : c .before .before .before .place .result ≡ p = simp (c .before .before .before .place .ensures, c .before .before .before .before .address-of .ensures, c .before .before .before .before .before .x-or-sp .ensures) in
-    refused (c .before .before .before .place .result) p (c .before .code .given .0 .0) e q (c .before .code .given .1)
+    placed-refused (c .before .before .before .place .result) p (c .before .code .given .0 .0) e q (c .before .code .given .1)
 
 pub judge-stgp-spec : {M : Type 1} → statement M
 judge-stgp-spec =

@@ -6,7 +6,7 @@ use Rattle.machine.specs.Registers.{xOrSp}
 use Rattle.machine.specs.Plans.{ldgEffect, placeOf}
 use lib.ListN.{length}
 use mathlib.Core.Bool.{false}
-use Rattle.machine.proofs.Judgement.{accepted, refused}
+use Rattle.machine.proofs.Judgement.{placed-accepted, placed-refused}
 use borrow.Author.Needs.{needs}
 use Rattle.machine.proofs.tag_load.judge_ldg.Statement.{statement}
 use Rattle.machine.proofs.tag_load.judge_ldg.Tie as tie
@@ -42,7 +42,7 @@ returns c =
     let e = ldgEffect (a .settings) x (a .status) (a .tags .now) (a .t) in
     let p = placeOf (a .settings) (length (a .tags .now)) (a .n) (xOrSp x (a .n)) (ldgAddress x (a .n) (a .amount)) false in
     let q : c .before .before .before .before .place .result ≡ p = simp (c .before .before .before .before .place .ensures, c .before .before .before .before .before .address-of .ensures, c .before .before .before .before .before .before .x-or-sp .ensures) in
-    accepted (c .before .before .before .before .place .result) p (c .before .before .i .given .0 .0) e (c .effect .result) q (c .before .before .i .given .1) (c .effect .ensures)
+    placed-accepted (c .before .before .before .before .place .result) p (c .before .before .i .given .0 .0) e (c .effect .result) q (c .before .before .i .given .1) (c .effect .ensures)
 
 returns-2 : tie.Need-returns-2
 returns-2 c =
@@ -51,7 +51,7 @@ returns-2 c =
     let e = ldgEffect (a .settings) x (a .status) (a .tags .now) (a .t) in
     let p = placeOf (a .settings) (length (a .tags .now)) (a .n) (xOrSp x (a .n)) (ldgAddress x (a .n) (a .amount)) false in
     let q : c .before .before .before .place .result ≡ p = simp (c .before .before .before .place .ensures, c .before .before .before .before .address-of .ensures, c .before .before .before .before .before .x-or-sp .ensures) in
-    refused (c .before .before .before .place .result) p (c .before .code .given .0 .0) e q (c .before .code .given .1)
+    placed-refused (c .before .before .before .place .result) p (c .before .code .given .0 .0) e q (c .before .code .given .1)
 
 pub judge-ldg-spec : {M : Type 1} → statement M
 judge-ldg-spec =

@@ -4,7 +4,7 @@ use Rattle.machine.specs.Registers.{xOrSp}
 use Rattle.machine.specs.Pointers.{tagOf}
 use Rattle.machine.specs.Plans.{placeOf, storeEffect, zeroing}
 use Rattle.machine.specs.Accesses.{addressOf}
-use Rattle.machine.proofs.Judgement.{accepted, refused}
+use Rattle.machine.proofs.Judgement.{placed-accepted, placed-refused}
 use borrow.Author.Needs.{needs}
 use Rattle.machine.proofs.tag_stores.judge_tag_store.Statement.{statement}
 use Rattle.machine.proofs.tag_stores.judge_tag_store.Tie as tie
@@ -48,7 +48,7 @@ returns c =
     let q : c .before .before .before .before .before .before .before .place .result ≡ p = simp (c .before .before .before .before .before .before .before .place .ensures, c .before .before .before .before .before .before .before .before .address-of .ensures, c .before .before .before .before .before .before .before .before .before .is-pair .ensures, c .before .before .before .before .before .before .before .before .before .before .x-or-sp .ensures) in
     let f : c .effect .result ≡ e (c .before .before .before .before .before .i .given .0 .0) =
     simp (c .effect .ensures, c .before .zeroes .ensures, c .before .before .tag-of .ensures .0, c .before .before .before .x-or-sp2 .ensures, c .before .before .before .before .before .before .before .before .before .is-pair .ensures) in
-    accepted (c .before .before .before .before .before .before .before .place .result) p (c .before .before .before .before .before .i .given .0 .0) e (c .effect .result) q (c .before .before .before .before .before .i .given .1) f
+    placed-accepted (c .before .before .before .before .before .before .before .place .result) p (c .before .before .before .before .before .i .given .0 .0) e (c .effect .result) q (c .before .before .before .before .before .i .given .1) f
 
 returns-2 : tie.Need-returns-2
 returns-2 c =
@@ -57,7 +57,7 @@ returns-2 c =
     let e = storeEffect (a .settings) x (a .status) (a .mode) (a .n) (a .amount) (isPair (a .op)) (tagOf (xOrSp x (a .t))) (zeroing (a .op)) in
     let p = placeOf (a .settings) (a .granules) (a .n) (xOrSp x (a .n)) (addressOf (a .mode) (xOrSp x (a .n)) (a .amount)) (isPair (a .op)) in
     let q : c .before .before .before .place .result ≡ p = simp (c .before .before .before .place .ensures, c .before .before .before .before .address-of .ensures, c .before .before .before .before .before .is-pair .ensures, c .before .before .before .before .before .before .x-or-sp .ensures) in
-    refused (c .before .before .before .place .result) p (c .before .code .given .0 .0) e q (c .before .code .given .1)
+    placed-refused (c .before .before .before .place .result) p (c .before .code .given .0 .0) e q (c .before .code .given .1)
 
 pub judge-tag-store-spec : {M : Type 1} → statement M
 judge-tag-store-spec =
