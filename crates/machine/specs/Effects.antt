@@ -1,5 +1,5 @@
--- Effects: what an accepted word changes, as plain data. They are no notion of document 01, and no public contract of a word
--- speaks of them: proofs/Outcomes has the law that the effect of a word leaves the state of specs/Words.
+-- Effects: what an accepted word changes, as plain data. They are no notion of document 01, and the contract of `execute` does
+-- not speak of them: by the law of proofs/Outcomes the effect of a word leaves the state that specs/Words gives.
 use Prim.Native.Nat.{ℕ, _+_, _*_, _≤_}
 use mathlib.Core.Path.{_≡_}
 use mathlib.Core.Bool.{Bool, true, cond}
