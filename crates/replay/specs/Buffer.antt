@@ -1,4 +1,4 @@
--- The buffer of the output.
+-- The buffer of the output. No rule of document 01.
 use Prim.Native.Nat.{ℕ, _≤_}
 use mathlib.Core.List.{List}
 use lib.ListN.{length}

@@ -1,4 +1,4 @@
--- Numbers of a fixed count of lower-case hex digits, read and written.
+-- Numbers of a fixed count of lower-case hex digits, read and written (document 01, "The session program"; docs/MANUAL.md).
 use Prim.Native.Nat.{ℕ, zero, suc, _+_, _-_, _*_, _/_, _%_}
 use mathlib.Core.Bool.{cond}
 use mathlib.Core.List.{List, [], _∷_, _++_}

@@ -1,4 +1,4 @@
--- What a line begins with.
+-- What a line begins with: its key (document 01, "The session program"; docs/MANUAL.md).
 use Prim.Native.Nat.{ℕ}
 use mathlib.Core.Bool.{Bool, true, false, cond}
 use mathlib.Core.List.{List, [], _∷_}
