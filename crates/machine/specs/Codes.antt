@@ -1,7 +1,8 @@
 -- The codes and their order (document 01, "Codes and their order").
 use Prim.Native.Nat.{ℕ}
-use mathlib.Core.Bool.{Bool, true, false, cond}
+use mathlib.Core.Bool.{Bool, cond}
 use mathlib.Core.List.{List, [], _∷_}
+use lib.Dec.{eqb}
 use Rattle.machine.specs.declared.Code.{Code}
 use Rattle.machine.specs.declared.Code.the-variants.{Done, Setup, Undefined, SpAlign, Align, Outside, NoHistory, BadRecord, Field}
 
@@ -29,12 +30,4 @@ abbrev pub lowest : (Code → Bool) → Code
 lowest applies = firstOf applies refusals
 
 abbrev pub isDone : Code → Bool
-isDone Done = true
-isDone Setup = false
-isDone Undefined = false
-isDone SpAlign = false
-isDone Align = false
-isDone Outside = false
-isDone NoHistory = false
-isDone BadRecord = false
-isDone Field = false
+isDone code = eqb (codeNumber code) 0

@@ -69,22 +69,22 @@ p14 = withStatus (record { nzcv = 0; rgsr = 0; seed = 1 }) (on 0x1000 0 (one 1 0
 -- the table, for any X1 and X2 in P7
 abbrev pub rows : ℕ → ℕ → List Row
 rows x1 x2 =
-    row 0x91810420 (p1 0) Done (resultIn 0 0x0300000000001010 (p1 0))
-    ∷ row 0x91810420 (p1 0x0008) Done (resultIn 0 0x0400000000001010 (p1 0x0008))
-    ∷ row 0x91810420 (p1 0xFFFF) Done (resultIn 0 0x0000000000001010 (p1 0xFFFF))
-    ∷ row 0x91800020 (p1 0x0004) Done (resultIn 0 0x0300000000001000 (p1 0x0004))
-    ∷ row 0x91800420 (p1 0x0004) Done (resultIn 0 0x0300000000001000 (p1 0x0004))
-    ∷ row 0x91810020 p6 Done (resultIn 0 0x1F00000000000000 p6)
-    ∷ row 0x69008801 (p7 x1 x2) Done
+    row 0x91810420 (p1 0) Done (resultIn 0 0x0300000000001010 (p1 0))  -- P1
+    ∷ row 0x91810420 (p1 0x0008) Done (resultIn 0 0x0400000000001010 (p1 0x0008))  -- P2
+    ∷ row 0x91810420 (p1 0xFFFF) Done (resultIn 0 0x0000000000001010 (p1 0xFFFF))  -- P3
+    ∷ row 0x91800020 (p1 0x0004) Done (resultIn 0 0x0300000000001000 (p1 0x0004))  -- P4
+    ∷ row 0x91800420 (p1 0x0004) Done (resultIn 0 0x0300000000001000 (p1 0x0004))  -- P5
+    ∷ row 0x91810020 p6 Done (resultIn 0 0x1F00000000000000 p6)  -- P6
+    ∷ row 0x69008801 (p7 x1 x2) Done  -- P7
     (withTags (0xB ∷ 0 ∷ 0 ∷ 0 ∷ []) (withBytes (bytesOf x1 ++ bytesOf x2 ++ replicate 48 0) (p7 x1 x2)))
-    ∷ row 0xD93FFC01 (x0Is 0x1000) Outside (x0Is 0x1000)
-    ∷ row 0xD9A00801 (x0Is 0x1030) Outside (x0Is 0x1030)
-    ∷ row 0xD9A00801 (x0Is 0x1020) Done (x0Is 0x1020)
-    ∷ row 0xD9600801 (x0Is 0x1008) Align (x0Is 0x1008)
-    ∷ row 0xD9600001 p11 Done (resultIn 1 0x0700000000000042 p11)
-    ∷ row 0xD9200BE0 p12 SpAlign p12
-    ∷ row 0xBAC2003F p13 Done (withStatus (record { nzcv = 6; rgsr = 0; seed = 0 }) p13)
-    ∷ row 0x9ADF1020 p14 Done
+    ∷ row 0xD93FFC01 (x0Is 0x1000) Outside (x0Is 0x1000)  -- P8
+    ∷ row 0xD9A00801 (x0Is 0x1030) Outside (x0Is 0x1030)  -- P9
+    ∷ row 0xD9A00801 (x0Is 0x1020) Done (x0Is 0x1020)  -- P9
+    ∷ row 0xD9600801 (x0Is 0x1008) Align (x0Is 0x1008)  -- P10
+    ∷ row 0xD9600001 p11 Done (resultIn 1 0x0700000000000042 p11)  -- P11
+    ∷ row 0xD9200BE0 p12 SpAlign p12  -- P12
+    ∷ row 0xBAC2003F p13 Done (withStatus (record { nzcv = 6; rgsr = 0; seed = 0 }) p13)  -- P13
+    ∷ row 0x9ADF1020 p14 Done  -- P14
     (resultIn 0 0x0100000000001000 (withStatus (record { nzcv = 0; rgsr = 1; seed = 0x1000 }) p14))
     ∷ []
 

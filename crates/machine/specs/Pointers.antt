@@ -36,26 +36,30 @@ addSubResult settings op operand amount offset =
 -- ADDG, SUBG
 abbrev pub addSub : AddSubOp → ℕ → ℕ → ℕ → ℕ → State → State
 addSub op d n amount offset s =
-    toXOrSp d (addSubResult (s .settings) op (xOrSp (s .registers .x) n) amount offset) s
+    let operand = xOrSp (s .registers .x) n in
+    toXOrSp d (addSubResult (s .settings) op operand amount offset) s
 
 -- sign-extended from bit 55
 abbrev pub extended : ℕ → ℕ
 extended v = bitsAt v 0 56 + bitsAt v 55 1 * (2 ^ 64 - 2 ^ 56)
 
--- Arm's AddWithCarry: the sum, and NZCV. A signed value is held with 2^63 added: V is set if the sum's is not the sum of both.
+-- Arm's AddWithCarry: the sum, and NZCV
 
 abbrev pub sumWithCarry : ℕ → ℕ → ℕ → ℕ
 sumWithCarry a b carry = (a + b + carry) % 2 ^ 64
 
+-- a signed value with 2^63 added, since the numbers here have no sign
 abbrev pub signedPlus : ℕ → ℕ
 signedPlus v = (v + 2 ^ 63) % 2 ^ 64
 
+-- N, Z; C if the sum is not the whole sum; V if its signed value is not the sum of the signed values
 abbrev pub flagsOf : ℕ → ℕ → ℕ → ℕ
 flagsOf a b carry =
-    bitsAt (sumWithCarry a b carry) 63 1 * 8
-    + cond (eqb (sumWithCarry a b carry) 0) 1 0 * 4
-    + cond (eqb (sumWithCarry a b carry) (a + b + carry)) 0 1 * 2
-    + cond (eqb (signedPlus (sumWithCarry a b carry) + 2 ^ 63) (signedPlus a + signedPlus b + carry)) 0 1
+    let sum = sumWithCarry a b carry in
+    bitsAt sum 63 1 * 8
+    + cond (eqb sum 0) 1 0 * 4
+    + cond (eqb sum (a + b + carry)) 0 1 * 2
+    + cond (eqb (signedPlus sum + 2 ^ 63) (signedPlus a + signedPlus b + carry)) 0 1
 
 -- a difference is the sum with the complement and a carry
 abbrev pub complement : ℕ → ℕ
@@ -72,17 +76,24 @@ withNzcv nzcv status = record { nzcv = nzcv; rgsr = status .rgsr; seed = status 
 
 -- SUBP: SP in Rn and Rm
 abbrev pub subp : ℕ → ℕ → ℕ → State → State
-subp d n m s = toXOrZero d (difference (xOrSp (s .registers .x) n) (xOrSp (s .registers .x) m)) s
+subp d n m s =
+    let operand1 = xOrSp (s .registers .x) n in
+    let operand2 = xOrSp (s .registers .x) m in
+    toXOrZero d (difference operand1 operand2) s
 
 -- SUBPS
 abbrev pub subps : ℕ → ℕ → ℕ → State → State
 subps d n m s =
-    withStatus (withNzcv (differenceFlags (xOrSp (s .registers .x) n) (xOrSp (s .registers .x) m)) (s .registers .status))
-    (subp d n m s)
+    let operand1 = xOrSp (s .registers .x) n in
+    let operand2 = xOrSp (s .registers .x) m in
+    withStatus (withNzcv (differenceFlags operand1 operand2) (s .registers .status)) (subp d n m s)
 
 -- GMI: Rm with the bit numbered by Rn's tag set
 abbrev pub withTagBit : ℕ → ℕ → ℕ
 withTagBit mask operand = withBits mask (tagOf operand) 1 1
 
 abbrev pub gmi : ℕ → ℕ → ℕ → State → State
-gmi d n m s = toXOrZero d (withTagBit (xOrZero (s .registers .x) m) (xOrSp (s .registers .x) n)) s
+gmi d n m s =
+    let operand = xOrSp (s .registers .x) n in
+    let mask = xOrZero (s .registers .x) m in
+    toXOrZero d (withTagBit mask operand) s

@@ -39,5 +39,7 @@ irgMask settings x m = maskOf settings (xOrZero x m)
 -- IRG
 abbrev pub irg : ℕ → ℕ → ℕ → State → State
 irg d n m s =
-    toXOrSp d (withTag (xOrSp (s .registers .x) n) (irgTag (s .settings) (s .registers .status) (irgMask (s .settings) (s .registers .x) m)))
-    (withStatus (irgStatus (s .settings) (s .registers .status) (irgMask (s .settings) (s .registers .x) m)) s)
+    let operand = xOrSp (s .registers .x) n in
+    let mask = irgMask (s .settings) (s .registers .x) m in
+    let tag = irgTag (s .settings) (s .registers .status) mask in
+    toXOrSp d (withTag operand tag) (withStatus (irgStatus (s .settings) (s .registers .status) mask) s)

@@ -8,6 +8,7 @@ use Rattle.machine.specs.declared.Status.{Status}
 use Rattle.machine.specs.declared.Registers.{Registers}
 use Rattle.machine.specs.declared.Machine.{Machine}
 
+-- `bytes` are the data bytes, `tags` the tag bytes
 pub record State : Type 0 where
   pub settings : Settings
   pub registers : Registers

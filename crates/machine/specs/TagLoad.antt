@@ -20,6 +20,6 @@ loadedTag settings tags i = cond (settings .access) (getD tags i 0 % 16) 0
 -- LDG
 abbrev pub ldg : ℕ → ℕ → ℕ → State → State
 ldg t n amount s =
-    toXOrZero t
-    (withTag (xOrZero (s .registers .x) t)
-    (loadedTag (s .settings) (s .tags) (indexOf (s .settings .base) (ldgAddress (s .registers .x) n amount)))) s
+    let address = ldgAddress (s .registers .x) n amount in
+    let tag = loadedTag (s .settings) (s .tags) (indexOf (s .settings .base) address) in
+    toXOrZero t (withTag (xOrZero (s .registers .x) t) tag) s

@@ -40,5 +40,7 @@ isPair Stz2g = true
 -- STG, STZG, ST2G, STZ2G: the tag is that of Rt's old value
 abbrev pub tagStore : TagStoreOp → Mode → ℕ → ℕ → ℕ → State → State
 tagStore op mode t n amount s =
-    writeback mode n (onward (xOrSp (s .registers .x) n) amount)
-    (storeTags op (addressOf mode (xOrSp (s .registers .x) n) amount) (tagOf (xOrSp (s .registers .x) t)) s)
+    let from = xOrSp (s .registers .x) n in
+    let address = addressOf mode from amount in
+    let tag = tagOf (xOrSp (s .registers .x) t) in
+    writeback mode n (onward from amount) (storeTags op address tag s)
