@@ -1,9 +1,10 @@
-use Rattle.machine.proofs.Judgement.{outcome-path}
+-- `machine::carry` meets its contract. Assumes nothing.
+use borrow.Author.Needs.{needs}
+use mathlib.Core.Path.{_≡_}
 use Rattle.machine.specs.Effects.{bytesAfter, tagsAfter, xAfter}
 use Rattle.machine.specs.Plans.{planOutcome}
 use Rattle.machine.specs.declared.Code.the-variants.{Done}
-use mathlib.Core.Path.{_≡_}
-use borrow.Author.Needs.{needs}
+use Rattle.machine.proofs.Judgement.{outcome-path}
 use Rattle.machine.proofs.carry.Statement.{statement}
 use Rattle.machine.proofs.carry.Tie as tie
 
@@ -14,7 +15,9 @@ enum-known-judged-2 : tie.Need-enum-known-judged-2
 enum-known-judged-2 c = search needs
 
 apply-requires : tie.Need-apply-requires
-apply-requires c κs = (rw (c .before .before .before .before .judged2 .given .1) at (c .before .before .before .before .before .before .before .before .pre .0), c .before .before .before .before .before .before .before .before .pre .1)
+apply-requires c κs =
+    let start = c .before .before .before .before .before .before .before .before in
+    (rw (c .before .before .before .before .judged2 .given .1) at (start .pre .0), start .pre .1)
 
 returns : tie.Need-returns
 unfolding planOutcome
@@ -29,12 +32,14 @@ same-length-2 c = search needs
 returns-2 : tie.Need-returns-2
 unfolding planOutcome
 returns-2 c =
+    let applied = c .before .before .before .before .before in
+    let told = c .before .before .before .before .before .before .before .before .before .before .judged2 .given in
     let a = c .before .before .before .before .before .before .before .before .before .before .before .before .before .before .args in
-    let f = c .before .before .before .before .before .before .before .before .before .before .judged2 .given .0 .0 in
-    let x : c .before .before .before .before .before .apply .last .0 ≡ xAfter f (a .x .now) = c .before .before .before .before .before .apply .ensures .0 in
-    let bytes : c .before .before .before .before .before .apply .last .1 .1 .0 ≡ bytesAfter f (a .bytes .now) = c .before .before .before .before .before .apply .ensures .1 .0 in
-    let tags : c .before .before .before .before .before .apply .last .1 .1 .1 .0 ≡ tagsAfter f (a .tags .now) = c .before .before .before .before .before .apply .ensures .1 .1 in
-    λ settings. rw (c .before .before .before .before .before .before .before .before .before .before .judged2 .given .1) (outcome-path Done settings (f .status) x bytes tags)
+    let f = told .0 .0 in
+    let x : applied .apply .last .0 ≡ xAfter f (a .x .now) = applied .apply .ensures .0 in
+    let bytes : applied .apply .last .1 .1 .0 ≡ bytesAfter f (a .bytes .now) = applied .apply .ensures .1 .0 in
+    let tags : applied .apply .last .1 .1 .1 .0 ≡ tagsAfter f (a .tags .now) = applied .apply .ensures .1 .1 in
+    λ settings. rw (told .1) (outcome-path Done settings (f .status) x bytes tags)
 
 pub carry-spec : {M : Type 1} → statement M
 carry-spec =

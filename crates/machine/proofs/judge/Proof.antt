@@ -1,5 +1,6 @@
-use Rattle.machine.specs.Plans.{planOf}
+-- `machine::judge` meets its contract. Assumes nothing.
 use borrow.Author.Needs.{needs}
+use Rattle.machine.specs.Plans.{planOf}
 use Rattle.machine.proofs.judge.Statement.{statement}
 use Rattle.machine.proofs.judge.Tie as tie
 

@@ -1,15 +1,16 @@
-use Rattle.machine.proofs.Within.{plan-within}
-use Rattle.machine.proofs.Outcomes.{plan-outcome}
-use Rattle.machine.proofs.Judgement.{fits}
-use Rattle.machine.proofs.Setup.{state-sized}
-use Rattle.machine.specs.Words.{wordOutcome}
+-- `machine::perform` meets its contract. Assumes nothing.
+use borrow.Author.Needs.{needs}
+use mathlib.Core.Path.{ap, _∙_}
+use lib.ListN.{length}
+use Rattle.isa.specs.Decoding.{decodeOf}
 use Rattle.machine.specs.Plans.{planOutcome}
 use Rattle.machine.specs.State.{stateOf}
+use Rattle.machine.specs.Words.{wordOutcome}
 use Rattle.machine.specs.declared.Judged.{Judged}
-use Rattle.isa.specs.Decoding.{decodeOf}
-use lib.ListN.{length}
-use mathlib.Core.Path.{ap, _∙_}
-use borrow.Author.Needs.{needs}
+use Rattle.machine.proofs.Judgement.{fits}
+use Rattle.machine.proofs.Outcomes.{plan-outcome}
+use Rattle.machine.proofs.Setup.{state-sized}
+use Rattle.machine.proofs.Within.{plan-within}
 use Rattle.machine.proofs.perform.Statement.{statement}
 use Rattle.machine.proofs.perform.Tie as tie
 
@@ -24,10 +25,12 @@ judge-requires c κs =
 
 carry-requires : tie.Need-carry-requires
 carry-requires c κs =
-    let a = c .before .before .before .before .before .before .before .before .before .args in
-    let h = c .before .before .before .before .before .before .before .before .before .pre in
-    let e = state-sized (a .settings) (a .status) (length (a .bytes .now)) (length (a .tags .now)) h .sixteen in
-    (rw (c .before .before .before .judge .ensures) (plan-within (a .settings) (a .x .now) (a .status) (a .tags .now) (c .before .before .before .before .decode .result) (rw e at h)), e)
+    let judged = c .before .before .before in
+    let start = judged .before .before .before .before .before .before in
+    let a = start .args in
+    let e = state-sized (a .settings) (a .status) (length (a .bytes .now)) (length (a .tags .now)) (start .pre) .sixteen in
+    let decoded = judged .before .decode .result in
+    (rw (judged .judge .ensures) (plan-within (a .settings) (a .x .now) (a .status) (a .tags .now) decoded (rw e at (start .pre))), e)
 
 same-length : tie.Need-same-length
 same-length c = search needs
@@ -38,10 +41,14 @@ same-length-2 c = search needs
 returns : tie.Need-returns
 unfolding wordOutcome
 returns c =
-    let a = c .before .before .before .before .before .before .before .before .before .before .before .before .before .before .args in
+    let judged = c .before .before .before .before .before .before .before .before in
+    let start = judged .before .before .before .before .before .before in
+    let a = start .args in
     let s = stateOf (a .settings) (a .x .now) (a .status) (a .bytes .now) (a .tags .now) in
-    let j = rw (c .before .before .before .before .before .before .before .before .before .decode .ensures) at (c .before .before .before .before .before .before .before .before .judge .ensures) in
-    c .before .before .before .before .carry .ensures (a .settings) ∙ ap (λ (p : Judged). planOutcome p s) j ∙ plan-outcome s (decodeOf (a .word)) (c .before .before .before .before .before .before .before .before .before .before .before .before .before .before .pre)
+    let plan = rw (judged .before .decode .ensures) at (judged .judge .ensures) in
+    c .before .before .before .before .carry .ensures (a .settings)
+    ∙ ap (λ (p : Judged). planOutcome p s) plan
+    ∙ plan-outcome s (decodeOf (a .word)) (start .pre)
 
 pub perform-spec : {M : Type 1} → statement M
 perform-spec =

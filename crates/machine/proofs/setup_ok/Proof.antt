@@ -1,6 +1,7 @@
-use Rattle.machine.specs.Setup.{setupOk}
-use mathlib.Core.Path.{sym, _∙_}
+-- `machine::setup_ok` meets its contract. Assumes nothing.
 use borrow.Author.Needs.{needs}
+use mathlib.Core.Path.{sym, _∙_}
+use Rattle.machine.specs.Setup.{setupOk}
 use Rattle.machine.proofs.setup_ok.Statement.{statement}
 use Rattle.machine.proofs.setup_ok.Tie as tie
 

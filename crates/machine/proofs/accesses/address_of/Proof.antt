@@ -1,3 +1,4 @@
+-- `machine::accesses::address_of` meets its contract. Assumes nothing.
 use borrow.Author.Needs.{needs}
 use Rattle.machine.proofs.accesses.address_of.Statement.{statement}
 use Rattle.machine.proofs.accesses.address_of.Tie as tie

@@ -1,3 +1,4 @@
+-- `machine::accesses::is_sp_misaligned` meets its contract. Assumes nothing.
 use borrow.Author.Tests.{eq-eqb, ne-eqb}
 use Rattle.machine.proofs.accesses.is_sp_misaligned.Statement.{statement}
 use Rattle.machine.proofs.accesses.is_sp_misaligned.Tie as tie

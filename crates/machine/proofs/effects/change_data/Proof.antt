@@ -1,10 +1,11 @@
+-- `machine::effects::change_data` meets its contract. Assumes nothing.
+use borrow.Author.Needs.{needs}
+use Prim.Native.Nat.{_*_}
+use native.Mathlib.Omega.{arith}
+use lib.Dec.{eqb}
+use lib.ListN.{length-take, length-drop}
 use Rattle.memory.proofs.Lists.{back-part}
 use Rattle.memory.specs.Stores.{pairBytes, savedBytes, zeroBytes}
-use Prim.Native.Nat.{_*_}
-use lib.ListN.{length-take, length-drop}
-use lib.Dec.{eqb}
-use native.Mathlib.Omega.{arith}
-use borrow.Author.Needs.{needs}
 use Rattle.machine.proofs.effects.change_data.Statement.{statement}
 use Rattle.machine.proofs.effects.change_data.Tie as tie
 

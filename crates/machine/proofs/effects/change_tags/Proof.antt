@@ -1,5 +1,6 @@
-use Rattle.machine.proofs.Granules.{named-two}
+-- `machine::effects::change_tags` meets its contract. Assumes nothing.
 use borrow.Author.Needs.{needs}
+use Rattle.machine.proofs.Granules.{named-two}
 use Rattle.machine.proofs.effects.change_tags.Statement.{statement}
 use Rattle.machine.proofs.effects.change_tags.Tie as tie
 

@@ -1,12 +1,13 @@
-use Rattle.machine.proofs.Setup.{state-sizes, state-status}
-use Rattle.machine.specs.declared.Judged.the-variants.{Accepted}
-use Rattle.isa.proofs.Fits.{three-fields}
-use Rattle.isa.specs.Encoding.{amountIn}
-use lib.ListN.{length}
+-- `machine::forms::judge_form` meets its contract. Assumes nothing.
+use borrow.Author.Needs.{needs}
 use mathlib.Core.Path.{ap}
 use Prim.Native.Nat.{_*_}
 use native.Mathlib.Omega.{arith}
-use borrow.Author.Needs.{needs}
+use lib.ListN.{length}
+use Rattle.isa.proofs.Fits.{three-fields}
+use Rattle.isa.specs.Encoding.{amountIn}
+use Rattle.machine.specs.declared.Judged.the-variants.{Accepted}
+use Rattle.machine.proofs.Setup.{state-sizes, state-status}
 use Rattle.machine.proofs.forms.judge_form.Statement.{statement}
 use Rattle.machine.proofs.forms.judge_form.Tie as tie
 

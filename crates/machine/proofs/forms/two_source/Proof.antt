@@ -1,3 +1,4 @@
+-- `machine::forms::two_source` meets its contract. Assumes nothing.
 use borrow.Author.Needs.{needs}
 use Rattle.machine.proofs.forms.two_source.Statement.{statement}
 use Rattle.machine.proofs.forms.two_source.Tie as tie

@@ -1,12 +1,13 @@
-use mathlib.Core.Path.{_≡_}
-use Rattle.machine.specs.Registers.{xOrSp, xOrZero}
-use Rattle.machine.specs.Pointers.{tagOf}
-use Rattle.machine.specs.Plans.{placeOf, storeEffect}
-use Rattle.machine.specs.declared.Change.the-variants.{Pair}
-use Rattle.machine.specs.Accesses.{addressOf}
-use mathlib.Core.Bool.{false}
-use Rattle.machine.proofs.Judgement.{placed-accepted, placed-refused}
+-- `machine::pair_store::judge_stgp` meets its contract. Assumes nothing.
 use borrow.Author.Needs.{needs}
+use mathlib.Core.Bool.{false}
+use mathlib.Core.Path.{_≡_}
+use Rattle.machine.specs.Accesses.{addressOf}
+use Rattle.machine.specs.Plans.{placeOf, storeEffect}
+use Rattle.machine.specs.Pointers.{tagOf}
+use Rattle.machine.specs.Registers.{xOrSp, xOrZero}
+use Rattle.machine.specs.declared.Change.the-variants.{Pair}
+use Rattle.machine.proofs.Judgement.{placed-accepted, placed-refused}
 use Rattle.machine.proofs.pair_store.judge_stgp.Statement.{statement}
 use Rattle.machine.proofs.pair_store.judge_stgp.Tie as tie
 
@@ -39,25 +40,40 @@ enum-known-code c = search needs
 
 returns : tie.Need-returns
 returns c =
-    let a = c .before .before .before .before .before .before .before .before .before .before .args in
+    let found = c .before .before .before .before .before .before .before in
+    let a = found .before .before .before .args in
     let x = a .x .now in
     let address = addressOf (a .mode) (xOrSp x (a .n)) (a .amount) in
-    let e = storeEffect (a .settings) x (a .status) (a .mode) (a .n) (a .amount) false (tagOf address) (Pair (xOrZero x (a .t)) (xOrZero x (a .t2))) in
+    let words = Pair (xOrZero x (a .t)) (xOrZero x (a .t2)) in
+    let e = storeEffect (a .settings) x (a .status) (a .mode) (a .n) (a .amount) false (tagOf address) words in
     let p = placeOf (a .settings) (a .granules) (a .n) (xOrSp x (a .n)) address false in
-    let q : c .before .before .before .before .before .before .before .place .result ≡ p = simp (c .before .before .before .before .before .before .before .place .ensures, c .before .before .before .before .before .before .before .before .address-of .ensures, c .before .before .before .before .before .before .before .before .before .x-or-sp .ensures) in
-    let f : c .effect .result ≡ e (c .before .before .before .before .before .i .given .0 .0) =
-    simp (c .effect .ensures, c .before .tag-of .ensures .0, c .before .before .x-or-zero2 .ensures, c .before .before .before .x-or-zero .ensures, c .before .before .before .before .before .before .before .before .address-of .ensures, c .before .before .before .before .before .before .before .before .before .x-or-sp .ensures) in
-    placed-accepted (c .before .before .before .before .before .before .before .place .result) p (c .before .before .before .before .before .i .given .0 .0) e (c .effect .result) q (c .before .before .before .before .before .i .given .1) f
+    let q : found .place .result ≡ p =
+    simp (found .place .ensures, found .before .address-of .ensures, found .before .before .x-or-sp .ensures) in
+    let told = c .before .before .before .before .before .i .given in
+    let f : c .effect .result ≡ e (told .0 .0) =
+    simp (
+      c .effect .ensures,
+      c .before .tag-of .ensures .0,
+      c .before .before .x-or-zero2 .ensures,
+      c .before .before .before .x-or-zero .ensures,
+      found .before .address-of .ensures,
+      found .before .before .x-or-sp .ensures,
+    ) in
+    placed-accepted (found .place .result) p (told .0 .0) e (c .effect .result) q (told .1) f
 
 returns-2 : tie.Need-returns-2
 returns-2 c =
-    let a = c .before .before .before .before .before .before .args in
+    let found = c .before .before .before in
+    let a = found .before .before .before .args in
     let x = a .x .now in
     let address = addressOf (a .mode) (xOrSp x (a .n)) (a .amount) in
-    let e = storeEffect (a .settings) x (a .status) (a .mode) (a .n) (a .amount) false (tagOf address) (Pair (xOrZero x (a .t)) (xOrZero x (a .t2))) in
+    let words = Pair (xOrZero x (a .t)) (xOrZero x (a .t2)) in
+    let e = storeEffect (a .settings) x (a .status) (a .mode) (a .n) (a .amount) false (tagOf address) words in
     let p = placeOf (a .settings) (a .granules) (a .n) (xOrSp x (a .n)) address false in
-    let q : c .before .before .before .place .result ≡ p = simp (c .before .before .before .place .ensures, c .before .before .before .before .address-of .ensures, c .before .before .before .before .before .x-or-sp .ensures) in
-    placed-refused (c .before .before .before .place .result) p (c .before .code .given .0 .0) e q (c .before .code .given .1)
+    let q : found .place .result ≡ p =
+    simp (found .place .ensures, found .before .address-of .ensures, found .before .before .x-or-sp .ensures) in
+    let told = c .before .code .given in
+    placed-refused (found .place .result) p (told .0 .0) e q (told .1)
 
 pub judge-stgp-spec : {M : Type 1} → statement M
 judge-stgp-spec =

@@ -1,3 +1,4 @@
+-- `machine::pointers::add_sub` meets its contract. Assumes nothing.
 use borrow.Author.Needs.{needs}
 use Rattle.machine.proofs.pointers.add_sub.Statement.{statement}
 use Rattle.machine.proofs.pointers.add_sub.Tie as tie

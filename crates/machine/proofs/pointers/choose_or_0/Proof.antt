@@ -1,5 +1,6 @@
-use Rattle.tag.proofs.TagChoice.{chosen-lt}
+-- `machine::pointers::choose_or_0` meets its contract. Assumes nothing.
 use borrow.Author.Needs.{needs}
+use Rattle.tag.proofs.TagChoice.{chosen-lt}
 use Rattle.machine.proofs.pointers.choose_or_0.Statement.{statement}
 use Rattle.machine.proofs.pointers.choose_or_0.Tie as tie
 

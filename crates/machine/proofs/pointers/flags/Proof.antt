@@ -1,7 +1,8 @@
-use Rattle.machine.proofs.Differences.{complemented, difference-flags, extended-lt}
-use Rattle.machine.specs.Pointers.{extended}
-use native.Mathlib.Omega.{arith}
+-- `machine::pointers::flags` meets its contract. Assumes nothing.
 use borrow.Author.Needs.{needs}
+use native.Mathlib.Omega.{arith}
+use Rattle.machine.specs.Pointers.{extended}
+use Rattle.machine.proofs.Differences.{complemented, difference-flags, extended-lt}
 use Rattle.machine.proofs.pointers.flags.Statement.{statement}
 use Rattle.machine.proofs.pointers.flags.Tie as tie
 
@@ -39,10 +40,12 @@ returns : tie.Need-returns
 returns c =
     let a = c .before .before .before .before .before .before .args .a in
     let b = c .before .before .before .before .before .before .args .b in
-    let r = c .before .before .before .wrapping-sub-u64 .result in
-    let e = rw (c .before .before .before .before .extend2 .ensures, c .before .before .before .before .before .extend .ensures) at (c .before .before .before .wrapping-sub-u64 .ensures) in
-    let carry = rw (c .before .before .before .before .extend2 .ensures, c .before .before .before .before .before .extend .ensures) at (c .flag2 .ensures .0) in
-    rw (c .before .before .field .ensures, c .before .flag .ensures .0, carry)
+    let difference = c .before .before .before in
+    let right = difference .before .extend2 .ensures in
+    let left = difference .before .before .extend .ensures in
+    let r = difference .wrapping-sub-u64 .result in
+    let e = rw (right, left) at (difference .wrapping-sub-u64 .ensures) in
+    rw (c .before .before .field .ensures, c .before .flag .ensures .0, rw (right, left) at (c .flag2 .ensures .0))
     (difference-flags a b r (complemented r (extended a) (extended b) (omega arith) (extended-lt b) e))
 
 pub flags-spec : {M : Type 1} → statement M

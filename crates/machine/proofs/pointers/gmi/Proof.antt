@@ -1,3 +1,4 @@
+-- `machine::pointers::gmi` meets its contract. Assumes nothing.
 use borrow.Author.Needs.{needs}
 use Rattle.machine.proofs.pointers.gmi.Statement.{statement}
 use Rattle.machine.proofs.pointers.gmi.Tie as tie

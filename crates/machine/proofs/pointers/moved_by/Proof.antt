@@ -1,6 +1,7 @@
-use Rattle.machine.proofs.Differences.{subtracted}
-use native.Mathlib.Omega.{arith}
+-- `machine::pointers::moved_by` meets its contract. Assumes nothing.
 use borrow.Author.Needs.{needs}
+use native.Mathlib.Omega.{arith}
+use Rattle.machine.proofs.Differences.{subtracted}
 use Rattle.machine.proofs.pointers.moved_by.Statement.{statement}
 use Rattle.machine.proofs.pointers.moved_by.Tie as tie
 
@@ -20,7 +21,10 @@ returns : tie.Need-returns
 returns c = rw (c .before .enum-told .given .1) (c .wrapping-add-u64 .ensures)
 
 returns-2 : tie.Need-returns-2
-returns-2 c = rw (c .before .enum-told2 .given .1) (subtracted (c .wrapping-sub-u64 .result) (c .before .before .before .args .v) (c .before .before .before .args .amount) (omega arith) (omega arith) (c .wrapping-sub-u64 .ensures))
+returns-2 c =
+    let a = c .before .before .before .args in
+    rw (c .before .enum-told2 .given .1)
+    (subtracted (c .wrapping-sub-u64 .result) (a .v) (a .amount) (omega arith) (omega arith) (c .wrapping-sub-u64 .ensures))
 
 pub moved-by-spec : {M : Type 1} → statement M
 moved-by-spec =

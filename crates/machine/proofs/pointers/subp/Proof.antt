@@ -1,3 +1,4 @@
+-- `machine::pointers::subp` meets its contract. Assumes nothing.
 use borrow.Author.Needs.{needs}
 use Rattle.machine.proofs.pointers.subp.Statement.{statement}
 use Rattle.machine.proofs.pointers.subp.Tie as tie

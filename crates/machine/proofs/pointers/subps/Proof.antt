@@ -1,3 +1,4 @@
+-- `machine::pointers::subps` meets its contract. Assumes nothing.
 use borrow.Author.Needs.{needs}
 use Rattle.machine.proofs.pointers.subps.Statement.{statement}
 use Rattle.machine.proofs.pointers.subps.Tie as tie

@@ -1,7 +1,8 @@
-use Rattle.machine.proofs.Differences.{complemented, extended-lt}
-use Rattle.machine.specs.Pointers.{extended}
-use native.Mathlib.Omega.{arith}
+-- `machine::pointers::subtract` meets its contract. Assumes nothing.
 use borrow.Author.Needs.{needs}
+use native.Mathlib.Omega.{arith}
+use Rattle.machine.specs.Pointers.{extended}
+use Rattle.machine.proofs.Differences.{complemented, extended-lt}
 use Rattle.machine.proofs.pointers.subtract.Statement.{statement}
 use Rattle.machine.proofs.pointers.subtract.Tie as tie
 

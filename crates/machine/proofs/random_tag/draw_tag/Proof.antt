@@ -1,5 +1,6 @@
-use Rattle.tag.proofs.TagChoice.{chosen-lt}
+-- `machine::random_tag::draw_tag` meets its contract. Assumes nothing.
 use borrow.Author.Needs.{needs}
+use Rattle.tag.proofs.TagChoice.{chosen-lt}
 use Rattle.machine.proofs.random_tag.draw_tag.Statement.{statement}
 use Rattle.machine.proofs.random_tag.draw_tag.Tie as tie
 

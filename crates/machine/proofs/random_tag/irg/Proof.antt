@@ -1,3 +1,4 @@
+-- `machine::random_tag::irg` meets its contract. Assumes nothing.
 use borrow.Author.Needs.{needs}
 use Rattle.machine.proofs.random_tag.irg.Statement.{statement}
 use Rattle.machine.proofs.random_tag.irg.Tie as tie

@@ -1,3 +1,4 @@
+-- `machine::random_tag::mask_of` meets its contract. Assumes nothing.
 use borrow.Author.Needs.{needs}
 use Rattle.machine.proofs.random_tag.mask_of.Statement.{statement}
 use Rattle.machine.proofs.random_tag.mask_of.Tie as tie

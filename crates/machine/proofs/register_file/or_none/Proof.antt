@@ -1,3 +1,4 @@
+-- `machine::register_file::or_none` meets its contract. Assumes nothing.
 use borrow.Author.Tests.{eq-eqb, ne-eqb}
 use Rattle.machine.proofs.register_file.or_none.Statement.{statement}
 use Rattle.machine.proofs.register_file.or_none.Tie as tie

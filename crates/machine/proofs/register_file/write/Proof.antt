@@ -1,5 +1,6 @@
-use borrow.Author.Tests.{lt-ltb, le-ltb}
+-- `machine::register_file::write` meets its contract. Assumes nothing.
 use borrow.Author.Needs.{needs}
+use borrow.Author.Tests.{lt-ltb, le-ltb}
 use Rattle.machine.proofs.register_file.write.Statement.{statement}
 use Rattle.machine.proofs.register_file.write.Tie as tie
 

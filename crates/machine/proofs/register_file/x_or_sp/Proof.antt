@@ -1,5 +1,6 @@
-use borrow.Author.Tests.{lt-ltb, le-ltb}
+-- `machine::register_file::x_or_sp` meets its contract. Assumes nothing.
 use borrow.Author.Needs.{needs}
+use borrow.Author.Tests.{lt-ltb, le-ltb}
 use Rattle.machine.proofs.register_file.x_or_sp.Statement.{statement}
 use Rattle.machine.proofs.register_file.x_or_sp.Tie as tie
 

@@ -1,5 +1,6 @@
-use borrow.Author.Tests.{eq-eqb, ne-eqb}
+-- `machine::register_file::x_or_zero` meets its contract. Assumes nothing.
 use borrow.Author.Needs.{needs}
+use borrow.Author.Tests.{eq-eqb, ne-eqb}
 use Rattle.machine.proofs.register_file.x_or_zero.Statement.{statement}
 use Rattle.machine.proofs.register_file.x_or_zero.Tie as tie
 

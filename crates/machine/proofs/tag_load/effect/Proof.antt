@@ -1,3 +1,4 @@
+-- `machine::tag_load::effect` meets its contract. Assumes nothing.
 use borrow.Author.Needs.{needs}
 use Rattle.machine.proofs.tag_load.effect.Statement.{statement}
 use Rattle.machine.proofs.tag_load.effect.Tie as tie

@@ -1,13 +1,14 @@
-use Rattle.machine.proofs.Places.{place-inside}
+-- `machine::tag_load::judge_ldg` meets its contract. Assumes nothing.
+use borrow.Author.Needs.{needs}
+use mathlib.Core.Bool.{false}
 use mathlib.Core.Path.{_≡_, sym, _∙_}
 use native.Mathlib.Omega.{arith}
-use Rattle.machine.specs.TagLoad.{ldgAddress}
-use Rattle.machine.specs.Registers.{xOrSp}
-use Rattle.machine.specs.Plans.{ldgEffect, placeOf}
 use lib.ListN.{length}
-use mathlib.Core.Bool.{false}
+use Rattle.machine.specs.Plans.{ldgEffect, placeOf}
+use Rattle.machine.specs.Registers.{xOrSp}
+use Rattle.machine.specs.TagLoad.{ldgAddress}
 use Rattle.machine.proofs.Judgement.{placed-accepted, placed-refused}
-use borrow.Author.Needs.{needs}
+use Rattle.machine.proofs.Places.{place-inside}
 use Rattle.machine.proofs.tag_load.judge_ldg.Statement.{statement}
 use Rattle.machine.proofs.tag_load.judge_ldg.Tie as tie
 
@@ -25,11 +26,14 @@ enum-known-i c = search needs
 
 effect-requires : tie.Need-effect-requires
 effect-requires c κs =
-    let a = c .before .before .before .before .before .before .before .args in
+    let found = c .before .before .before in
+    let start = found .before .before .before .before in
+    let a = start .args in
+    let told = c .before .i .given in
     omega (
       arith,
-      place-inside (a .settings) (length (a .tags .now)) (a .n) (c .before .before .before .before .before .x-or-sp .result) (c .before .before .before .before .address-of .result) false (c .before .i .given .0 .0)
-          (c .before .before .before .before .before .before .before .pre) (sym (c .before .before .before .place .ensures) ∙ c .before .i .given .1),
+      place-inside (a .settings) (length (a .tags .now)) (a .n) (found .before .before .x-or-sp .result) (found .before .address-of .result) false (told .0 .0)
+          (start .pre) (sym (found .place .ensures) ∙ told .1),
     )
 
 enum-known-code : tie.Need-enum-known-code
@@ -37,21 +41,27 @@ enum-known-code c = search needs
 
 returns : tie.Need-returns
 returns c =
-    let a = c .before .before .before .before .before .before .before .before .args in
+    let found = c .before .before .before .before in
+    let a = found .before .before .before .before .args in
     let x = a .x .now in
     let e = ldgEffect (a .settings) x (a .status) (a .tags .now) (a .t) in
     let p = placeOf (a .settings) (length (a .tags .now)) (a .n) (xOrSp x (a .n)) (ldgAddress x (a .n) (a .amount)) false in
-    let q : c .before .before .before .before .place .result ≡ p = simp (c .before .before .before .before .place .ensures, c .before .before .before .before .before .address-of .ensures, c .before .before .before .before .before .before .x-or-sp .ensures) in
-    placed-accepted (c .before .before .before .before .place .result) p (c .before .before .i .given .0 .0) e (c .effect .result) q (c .before .before .i .given .1) (c .effect .ensures)
+    let q : found .place .result ≡ p =
+    simp (found .place .ensures, found .before .address-of .ensures, found .before .before .x-or-sp .ensures) in
+    let told = c .before .before .i .given in
+    placed-accepted (found .place .result) p (told .0 .0) e (c .effect .result) q (told .1) (c .effect .ensures)
 
 returns-2 : tie.Need-returns-2
 returns-2 c =
-    let a = c .before .before .before .before .before .before .before .args in
+    let found = c .before .before .before in
+    let a = found .before .before .before .before .args in
     let x = a .x .now in
     let e = ldgEffect (a .settings) x (a .status) (a .tags .now) (a .t) in
     let p = placeOf (a .settings) (length (a .tags .now)) (a .n) (xOrSp x (a .n)) (ldgAddress x (a .n) (a .amount)) false in
-    let q : c .before .before .before .place .result ≡ p = simp (c .before .before .before .place .ensures, c .before .before .before .before .address-of .ensures, c .before .before .before .before .before .x-or-sp .ensures) in
-    placed-refused (c .before .before .before .place .result) p (c .before .code .given .0 .0) e q (c .before .code .given .1)
+    let q : found .place .result ≡ p =
+    simp (found .place .ensures, found .before .address-of .ensures, found .before .before .x-or-sp .ensures) in
+    let told = c .before .code .given in
+    placed-refused (found .place .result) p (told .0 .0) e q (told .1)
 
 pub judge-ldg-spec : {M : Type 1} → statement M
 judge-ldg-spec =

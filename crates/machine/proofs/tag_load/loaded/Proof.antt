@@ -1,5 +1,6 @@
-use native.Mathlib.Omega.{arith}
+-- `machine::tag_load::loaded` meets its contract. Assumes nothing.
 use borrow.Author.Needs.{needs}
+use native.Mathlib.Omega.{arith}
 use Rattle.machine.proofs.tag_load.loaded.Statement.{statement}
 use Rattle.machine.proofs.tag_load.loaded.Tie as tie
 

@@ -1,3 +1,4 @@
+-- `machine::tag_stores::effect` meets its contract. Assumes nothing.
 use borrow.Author.Needs.{needs}
 use Rattle.machine.proofs.tag_stores.effect.Statement.{statement}
 use Rattle.machine.proofs.tag_stores.effect.Tie as tie

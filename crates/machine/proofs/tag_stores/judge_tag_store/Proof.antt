@@ -1,11 +1,12 @@
-use mathlib.Core.Path.{_≡_}
-use Rattle.machine.specs.TagStores.{isPair}
-use Rattle.machine.specs.Registers.{xOrSp}
-use Rattle.machine.specs.Pointers.{tagOf}
-use Rattle.machine.specs.Plans.{placeOf, storeEffect, zeroing}
-use Rattle.machine.specs.Accesses.{addressOf}
-use Rattle.machine.proofs.Judgement.{placed-accepted, placed-refused}
+-- `machine::tag_stores::judge_tag_store` meets its contract. Assumes nothing.
 use borrow.Author.Needs.{needs}
+use mathlib.Core.Path.{_≡_}
+use Rattle.machine.specs.Accesses.{addressOf}
+use Rattle.machine.specs.Plans.{placeOf, storeEffect, zeroing}
+use Rattle.machine.specs.Pointers.{tagOf}
+use Rattle.machine.specs.Registers.{xOrSp}
+use Rattle.machine.specs.TagStores.{isPair}
+use Rattle.machine.proofs.Judgement.{placed-accepted, placed-refused}
 use Rattle.machine.proofs.tag_stores.judge_tag_store.Statement.{statement}
 use Rattle.machine.proofs.tag_stores.judge_tag_store.Tie as tie
 
@@ -41,23 +42,47 @@ enum-known-code c = search needs
 
 returns : tie.Need-returns
 returns c =
-    let a = c .before .before .before .before .before .before .before .before .before .before .before .args in
+    let found = c .before .before .before .before .before .before .before in
+    let a = found .before .before .before .before .args in
     let x = a .x .now in
-    let e = storeEffect (a .settings) x (a .status) (a .mode) (a .n) (a .amount) (isPair (a .op)) (tagOf (xOrSp x (a .t))) (zeroing (a .op)) in
-    let p = placeOf (a .settings) (a .granules) (a .n) (xOrSp x (a .n)) (addressOf (a .mode) (xOrSp x (a .n)) (a .amount)) (isPair (a .op)) in
-    let q : c .before .before .before .before .before .before .before .place .result ≡ p = simp (c .before .before .before .before .before .before .before .place .ensures, c .before .before .before .before .before .before .before .before .address-of .ensures, c .before .before .before .before .before .before .before .before .before .is-pair .ensures, c .before .before .before .before .before .before .before .before .before .before .x-or-sp .ensures) in
-    let f : c .effect .result ≡ e (c .before .before .before .before .before .i .given .0 .0) =
-    simp (c .effect .ensures, c .before .zeroes .ensures, c .before .before .tag-of .ensures .0, c .before .before .before .x-or-sp2 .ensures, c .before .before .before .before .before .before .before .before .before .is-pair .ensures) in
-    placed-accepted (c .before .before .before .before .before .before .before .place .result) p (c .before .before .before .before .before .i .given .0 .0) e (c .effect .result) q (c .before .before .before .before .before .i .given .1) f
+    let pair = isPair (a .op) in
+    let e = storeEffect (a .settings) x (a .status) (a .mode) (a .n) (a .amount) pair (tagOf (xOrSp x (a .t))) (zeroing (a .op)) in
+    let p = placeOf (a .settings) (a .granules) (a .n) (xOrSp x (a .n)) (addressOf (a .mode) (xOrSp x (a .n)) (a .amount)) pair in
+    let q : found .place .result ≡ p =
+    simp (
+      found .place .ensures,
+      found .before .address-of .ensures,
+      found .before .before .is-pair .ensures,
+      found .before .before .before .x-or-sp .ensures,
+    ) in
+    let told = c .before .before .before .before .before .i .given in
+    let f : c .effect .result ≡ e (told .0 .0) =
+    simp (
+      c .effect .ensures,
+      c .before .zeroes .ensures,
+      c .before .before .tag-of .ensures .0,
+      c .before .before .before .x-or-sp2 .ensures,
+      found .before .before .is-pair .ensures,
+    ) in
+    placed-accepted (found .place .result) p (told .0 .0) e (c .effect .result) q (told .1) f
 
 returns-2 : tie.Need-returns-2
 returns-2 c =
-    let a = c .before .before .before .before .before .before .before .args in
+    let found = c .before .before .before in
+    let a = found .before .before .before .before .args in
     let x = a .x .now in
-    let e = storeEffect (a .settings) x (a .status) (a .mode) (a .n) (a .amount) (isPair (a .op)) (tagOf (xOrSp x (a .t))) (zeroing (a .op)) in
-    let p = placeOf (a .settings) (a .granules) (a .n) (xOrSp x (a .n)) (addressOf (a .mode) (xOrSp x (a .n)) (a .amount)) (isPair (a .op)) in
-    let q : c .before .before .before .place .result ≡ p = simp (c .before .before .before .place .ensures, c .before .before .before .before .address-of .ensures, c .before .before .before .before .before .is-pair .ensures, c .before .before .before .before .before .before .x-or-sp .ensures) in
-    placed-refused (c .before .before .before .place .result) p (c .before .code .given .0 .0) e q (c .before .code .given .1)
+    let pair = isPair (a .op) in
+    let e = storeEffect (a .settings) x (a .status) (a .mode) (a .n) (a .amount) pair (tagOf (xOrSp x (a .t))) (zeroing (a .op)) in
+    let p = placeOf (a .settings) (a .granules) (a .n) (xOrSp x (a .n)) (addressOf (a .mode) (xOrSp x (a .n)) (a .amount)) pair in
+    let q : found .place .result ≡ p =
+    simp (
+      found .place .ensures,
+      found .before .address-of .ensures,
+      found .before .before .is-pair .ensures,
+      found .before .before .before .x-or-sp .ensures,
+    ) in
+    let told = c .before .code .given in
+    placed-refused (found .place .result) p (told .0 .0) e q (told .1)
 
 pub judge-tag-store-spec : {M : Type 1} → statement M
 judge-tag-store-spec =
