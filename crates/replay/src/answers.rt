@@ -6,7 +6,7 @@ use super::numbers::at_most;
 use super::numbers::low_byte;
 use super::numbers::low_half;
 use super::numbers::low_word;
-use super::world::World;
+use super::player::Player;
 use super::writer::put_line;
 use isa::Decoded;
 ghost use Rattle.replay.specs.Buffer.{Filled};
@@ -46,41 +46,41 @@ fn flag(b: bool) -> u64 {
 }
 
 // The number that the state has for a kind of line of one number.
-fn state_number(world: World, kind: u64) -> u64 {
+fn state_number(player: Player, kind: u64) -> u64 {
     match kind {
-        kinds::FRESH => world.machine.settings.base,
-        kinds::ACCESS => flag(world.machine.settings.access),
-        kinds::EXCLUDE => world.machine.settings.exclude as u64,
-        kinds::NZCV => world.machine.registers.status.nzcv as u64,
-        kinds::RGSR => world.machine.registers.status.rgsr as u64,
-        kinds::SEED => world.machine.registers.status.seed as u64,
-        kinds::NEXT => world.machine.cursor.next as u64,
-        kinds::HELD => world.machine.cursor.held as u64,
-        kinds::TAGS => world.tags as u64,
-        _ => world.data as u64,
+        kinds::FRESH => player.machine.settings.base,
+        kinds::ACCESS => flag(player.machine.settings.access),
+        kinds::EXCLUDE => player.machine.settings.exclude as u64,
+        kinds::NZCV => player.machine.registers.status.nzcv as u64,
+        kinds::RGSR => player.machine.registers.status.rgsr as u64,
+        kinds::SEED => player.machine.registers.status.seed as u64,
+        kinds::NEXT => player.machine.cursor.next as u64,
+        kinds::HELD => player.machine.cursor.held as u64,
+        kinds::TAGS => player.tags as u64,
+        _ => player.data as u64,
     }
 }
 
 // Puts the ten lines that every state has.
-fn put_front(world: World, out: &mut [u8], filled: usize) -> usize
+fn put_front(player: Player, out: &mut [u8], filled: usize) -> usize
     requires { ⌜ Filled filled (now out) ⌝ }
     ensures { λ r. ⌜ Filled r (now (out .exit)) ⌝ }
 {
     let mut n = filled;
     let mut kind = kinds::FRESH;
     while kind <= kinds::DATA {
-        n = put_one(out, n, kind, state_number(world, kind));
+        n = put_one(out, n, kind, state_number(player, kind));
         kind += 1;
     }
     n
 }
 
 // Puts a line for each register that is not zero.
-fn put_registers(world: World, out: &mut [u8], filled: usize) -> usize
+fn put_registers(player: Player, out: &mut [u8], filled: usize) -> usize
     requires { ⌜ Filled filled (now out) ⌝ }
     ensures { λ r. ⌜ Filled r (now (out .exit)) ⌝ }
 {
-    let registers = world.machine.registers;
+    let registers = player.machine.registers;
     let mut n = filled;
     let mut i = 0;
     while i < 32 {
@@ -106,23 +106,23 @@ fn put_bytes(bytes: &[u8], count: usize, kind: u64, out: &mut [u8], filled: usiz
     n
 }
 
-fn put_state(world: World, tags: &[u8], data: &[u8], out: &mut [u8], filled: usize) -> usize
+fn put_state(player: Player, tags: &[u8], data: &[u8], out: &mut [u8], filled: usize) -> usize
     requires { ⌜ Filled filled (now out) ⌝ }
     ensures { λ r. ⌜ Filled r (now (out .exit)) ⌝ }
 {
-    let a = put_front(world, out, filled);
-    let b = put_registers(world, out, a);
-    let c = put_bytes(tags, world.tags, kinds::TAG, out, b);
-    put_bytes(data, world.data, kinds::BYTE, out, c)
+    let a = put_front(player, out, filled);
+    let b = put_registers(player, out, a);
+    let c = put_bytes(tags, player.tags, kinds::TAG, out, b);
+    put_bytes(data, player.data, kinds::BYTE, out, c)
 }
 
-fn put_code(world: World, tags: &[u8], data: &[u8], out: &mut [u8], filled: usize) -> usize
+fn put_code(player: Player, tags: &[u8], data: &[u8], out: &mut [u8], filled: usize) -> usize
     requires { ⌜ Filled filled (now out) ⌝ }
     ensures { λ r. ⌜ Filled r (now (out .exit)) ⌝ }
 {
-    let n = put_one(out, filled, kinds::CODE, world.code as u64);
-    if world.dump {
-        put_state(world, tags, data, out, n)
+    let n = put_one(out, filled, kinds::CODE, player.code as u64);
+    if player.dump {
+        put_state(player, tags, data, out, n)
     } else {
         n
     }
@@ -184,9 +184,9 @@ fn put_drawn(seed: u64, out: &mut [u8], filled: usize) -> usize
     )
 }
 
-// Puts what a line answers in the world that it leaves.
+// Puts the answer to a line, given the player after it.
 pub(crate) fn put_answer(
-    world: World,
+    player: Player,
     line: Line,
     tags: &[u8],
     data: &[u8],
@@ -202,8 +202,8 @@ pub(crate) fn put_answer(
         return put_encoded(line, out, filled);
     }
     match kind {
-        kinds::WORD => put_code(world, tags, data, out, filled),
-        kinds::SHOW => put_state(world, tags, data, out, filled),
+        kinds::WORD => put_code(player, tags, data, out, filled),
+        kinds::SHOW => put_state(player, tags, data, out, filled),
         kinds::DECODE => put_decoded(values[0], out, filled),
         kinds::CHOOSE => put_chosen(values, out, filled),
         kinds::DRAW => put_drawn(values[0], out, filled),

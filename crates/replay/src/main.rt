@@ -1,8 +1,8 @@
 // Plays a script from standard input on the machine and writes what each call answers and the state (docs/MANUAL.md,
 // "Replaying a script").
 use lines::Line;
-use world::MOST_DATA;
-use world::MOST_TAGS;
+use player::MOST_DATA;
+use player::MOST_TAGS;
 ghost use Prim.Native.Nat.{_≤_};
 ghost use lib.ListN.{length};
 
@@ -11,8 +11,8 @@ mod forms;
 mod kinds;
 mod lines;
 mod numbers;
+mod player;
 mod reader;
-mod world;
 mod writer;
 
 // One byte more than the longest script has, so that a longer one is seen.
@@ -46,7 +46,7 @@ fn write_bad(number: usize, out: &mut [u8])
 fn play(s: &[u8], tags: &mut [u8], data: &mut [u8], out: &mut [u8])
     requires { ⌜ 128 ≤ length (now out) ⌝ }
 {
-    let mut world = world::fresh(0, true);
+    let mut player = player::fresh(0, true);
     let mut filled = 0;
     let mut at = 0;
     loop {
@@ -54,8 +54,8 @@ fn play(s: &[u8], tags: &mut [u8], data: &mut [u8], out: &mut [u8])
         if line.next <= at {
             break;
         }
-        world = world::after(world, line, tags, data);
-        filled = answers::put_answer(world, line, tags, data, out, filled);
+        player = player::after(player, line, tags, data);
+        filled = answers::put_answer(player, line, tags, data, out, filled);
         at = line.next;
     }
     io::write_all(1, &out[..filled]);

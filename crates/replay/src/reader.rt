@@ -4,8 +4,8 @@ use super::lines::Line;
 use super::lines::separator;
 use super::lines::shape_of;
 use super::numbers::at_most;
-use super::world::MOST_DATA;
-use super::world::MOST_TAGS;
+use super::player::MOST_DATA;
+use super::player::MOST_TAGS;
 use text::Hex;
 
 // The place after the key at at, or 0 where it does not stand there.

@@ -10,10 +10,10 @@ use Rattle.replay.proofs.play.Statement.{statement}
 use Rattle.replay.proofs.play.Tie as tie
 
 abbrev Inv-loop : tie.InvT-loop
-Inv-loop s tags₀ data₀ out₀ world₀ filled₀ at₀ tags «data» out world filled at = (Filled filled out) × (length tags ≡ length tags₀) × (length «data» ≡ length data₀) × (length out ≡ length out₀)
+Inv-loop s tags₀ data₀ out₀ player₀ filled₀ at₀ tags «data» out player filled at = (Filled filled out) × (length tags ≡ length tags₀) × (length «data» ≡ length data₀) × (length out ≡ length out₀)
 
 abbrev μ-loop : tie.MeasureT-loop
-μ-loop s tags₀ data₀ out₀ world₀ filled₀ at₀ tags «data» out world filled at = 2 ^ 64 - at
+μ-loop s tags₀ data₀ out₀ player₀ filled₀ at₀ tags «data» out player filled at = 2 ^ 64 - at
 
 fresh-requires : tie.Need-fresh-requires Inv-loop μ-loop
 fresh-requires c κs = search needs

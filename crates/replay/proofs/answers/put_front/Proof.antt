@@ -8,10 +8,10 @@ use Rattle.replay.proofs.answers.put_front.Statement.{statement}
 use Rattle.replay.proofs.answers.put_front.Tie as tie
 
 abbrev Inv-loop : tie.InvT-loop
-Inv-loop world out₀ filled n₀ kind₀ out n kind = (Filled n out) × (length out ≡ length out₀)
+Inv-loop player out₀ filled n₀ kind₀ out n kind = (Filled n out) × (length out ≡ length out₀)
 
 abbrev μ-loop : tie.MeasureT-loop
-μ-loop world out₀ filled n₀ kind₀ out n kind = 11 - kind
+μ-loop player out₀ filled n₀ kind₀ out n kind = 11 - kind
 
 loop-holds : tie.Need-loop-holds Inv-loop μ-loop
 loop-holds c = search needs

@@ -1,4 +1,4 @@
-// What a script is played on, and what each line leaves.
+// The player of a script: the machine, how much of the memories is its own, and what each line does to them.
 use super::kinds;
 use super::lines::Line;
 use super::numbers::at_most;
@@ -7,12 +7,12 @@ use super::numbers::low_half;
 use super::numbers::low_word;
 use machine::Machine;
 
-// The most tag bytes and data bytes that a machine can have.
+// The most tag bytes and data bytes that a script can give the machine.
 pub(crate) const MOST_TAGS: usize = 0x1_0010;
 
 pub(crate) const MOST_DATA: usize = 0x10_0100;
 
-pub(crate) struct World {
+pub(crate) struct Player {
     pub(crate) machine: Machine,
     // How many tag bytes and data bytes are the machine's.
     pub(crate) tags: usize,
@@ -26,8 +26,8 @@ pub(crate) struct World {
     pub(crate) code: u32,
 }
 
-pub(crate) fn fresh(base: u64, dump: bool) -> World {
-    World {
+pub(crate) fn fresh(base: u64, dump: bool) -> Player {
+    Player {
         machine: machine::fresh(base),
         tags: 0,
         data: 0,
@@ -52,10 +52,10 @@ fn clear(bytes: &mut [u8], end: usize) {
     }
 }
 
-fn started_again(world: World, base: u64, tags: &mut [u8], data: &mut [u8]) -> World {
-    clear(tags, world.tags_end);
-    clear(data, world.data_end);
-    fresh(base, world.dump)
+fn started_again(player: Player, base: u64, tags: &mut [u8], data: &mut [u8]) -> Player {
+    clear(tags, player.tags_end);
+    clear(data, player.data_end);
+    fresh(base, player.dump)
 }
 
 // Stores a byte, and answers the place after it. The reader lets no index through that is out of range.
@@ -69,36 +69,36 @@ fn stored(bytes: &mut [u8], index: u64, value: u64) -> usize {
     }
 }
 
-fn tag_stored(world: World, index: u64, value: u64, tags: &mut [u8]) -> World {
-    let mut w = world;
+fn tag_stored(player: Player, index: u64, value: u64, tags: &mut [u8]) -> Player {
+    let mut w = player;
     let end = stored(tags, index, value);
-    w.tags_end = larger(world.tags_end, end);
+    w.tags_end = larger(player.tags_end, end);
     w
 }
 
-fn byte_stored(world: World, index: u64, value: u64, data: &mut [u8]) -> World {
-    let mut w = world;
+fn byte_stored(player: Player, index: u64, value: u64, data: &mut [u8]) -> Player {
+    let mut w = player;
     let end = stored(data, index, value);
-    w.data_end = larger(world.data_end, end);
+    w.data_end = larger(player.data_end, end);
     w
 }
 
-fn carried_out(world: World, word: u64, tags: &mut [u8], data: &mut [u8]) -> World {
-    let before = world.machine;
-    let n = at_most(world.data, data.len());
-    let m = at_most(world.tags, tags.len());
+fn carried_out(player: Player, word: u64, tags: &mut [u8], data: &mut [u8]) -> Player {
+    let before = player.machine;
+    let n = at_most(player.data, data.len());
+    let m = at_most(player.tags, tags.len());
     let answer = machine::execute(before, low_word(word), &mut data[..n], &mut tags[..m]);
     let code = answer.code;
     let after = answer.machine;
-    let mut result = world;
+    let mut result = player;
     result.machine = after;
     result.code = code.number();
     result
 }
 
-fn with_register(world: World, number: u64, value: u64) -> World {
-    let mut w = world;
-    let mut machine = world.machine;
+fn with_register(player: Player, number: u64, value: u64) -> Player {
+    let mut w = player;
+    let mut machine = player.machine;
     let mut registers = machine.registers;
     let i = (number % 32) as usize;
     registers.x[i] = value;
@@ -107,23 +107,23 @@ fn with_register(world: World, number: u64, value: u64) -> World {
     w
 }
 
-fn with_tags(world: World, n: usize) -> World {
-    let mut w = world;
+fn with_tags(player: Player, n: usize) -> Player {
+    let mut w = player;
     w.tags = n;
-    w.tags_end = larger(world.tags_end, n);
+    w.tags_end = larger(player.tags_end, n);
     w
 }
 
-fn with_data(world: World, n: usize) -> World {
-    let mut w = world;
+fn with_data(player: Player, n: usize) -> Player {
+    let mut w = player;
     w.data = n;
-    w.data_end = larger(world.data_end, n);
+    w.data_end = larger(player.data_end, n);
     w
 }
 
 // NZCV or the parts of RGSR.
-fn with_status(world: World, kind: u64, v: u64) -> World {
-    let mut w = world;
+fn with_status(player: Player, kind: u64, v: u64) -> Player {
+    let mut w = player;
     let byte = low_byte(v);
     let half = low_half(v);
     match kind {
@@ -140,8 +140,8 @@ fn with_status(world: World, kind: u64, v: u64) -> World {
     w
 }
 
-fn with_cursor(world: World, kind: u64, place: usize) -> World {
-    let mut w = world;
+fn with_cursor(player: Player, kind: u64, place: usize) -> Player {
+    let mut w = player;
     match kind {
         kinds::NEXT => {
             w.machine.cursor.next = place;
@@ -154,8 +154,8 @@ fn with_cursor(world: World, kind: u64, place: usize) -> World {
 }
 
 // Tag access, the exclude mask or the dump; any other kind changes nothing.
-fn with_setting(world: World, kind: u64, v: u64) -> World {
-    let mut w = world;
+fn with_setting(player: Player, kind: u64, v: u64) -> Player {
+    let mut w = player;
     let on = v == 1;
     let mask = low_half(v);
     match kind {
@@ -173,21 +173,21 @@ fn with_setting(world: World, kind: u64, v: u64) -> World {
     w
 }
 
-// The world that a line leaves.
-pub(crate) fn after(world: World, line: Line, tags: &mut [u8], data: &mut [u8]) -> World {
+// The player after a line.
+pub(crate) fn after(player: Player, line: Line, tags: &mut [u8], data: &mut [u8]) -> Player {
     let kind = line.kind;
     let a = line.values[0];
     let b = line.values[1];
     match kind {
-        kinds::FRESH => started_again(world, a, tags, data),
-        kinds::TAGS => with_tags(world, a as usize),
-        kinds::DATA => with_data(world, a as usize),
-        kinds::X => with_register(world, a, b),
-        kinds::TAG => tag_stored(world, a, b, tags),
-        kinds::BYTE => byte_stored(world, a, b, data),
-        kinds::WORD => carried_out(world, a, tags, data),
-        kinds::NZCV | kinds::RGSR | kinds::SEED => with_status(world, kind, a),
-        kinds::NEXT | kinds::HELD => with_cursor(world, kind, a as usize),
-        _ => with_setting(world, kind, a),
+        kinds::FRESH => started_again(player, a, tags, data),
+        kinds::TAGS => with_tags(player, a as usize),
+        kinds::DATA => with_data(player, a as usize),
+        kinds::X => with_register(player, a, b),
+        kinds::TAG => tag_stored(player, a, b, tags),
+        kinds::BYTE => byte_stored(player, a, b, data),
+        kinds::WORD => carried_out(player, a, tags, data),
+        kinds::NZCV | kinds::RGSR | kinds::SEED => with_status(player, kind, a),
+        kinds::NEXT | kinds::HELD => with_cursor(player, kind, a as usize),
+        _ => with_setting(player, kind, a),
     }
 }

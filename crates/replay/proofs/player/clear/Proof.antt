@@ -1,10 +1,10 @@
--- `replay::world::clear` is safe and ends. Assumes nothing.
+-- `replay::player::clear` is safe and ends. Assumes nothing.
 use borrow.Author.Needs.{needs}
 use mathlib.Core.Path.{_≡_}
 use Prim.Native.Nat.{_-_, _≤_}
 use lib.ListN.{length}
-use Rattle.replay.proofs.world.clear.Statement.{statement}
-use Rattle.replay.proofs.world.clear.Tie as tie
+use Rattle.replay.proofs.player.clear.Statement.{statement}
+use Rattle.replay.proofs.player.clear.Tie as tie
 
 abbrev Inv-loop : tie.InvT-loop
 Inv-loop bytes₀ end n i₀ bytes i = (i ≤ n) × (length bytes ≡ length bytes₀)

@@ -1,10 +1,10 @@
--- `replay::world::carried_out` is safe and ends. Assumes nothing.
+-- `replay::player::carried_out` is safe and ends. Assumes nothing.
 use borrow.Author.Needs.{needs}
 use mathlib.Core.Path.{sym}
 use native.Mathlib.Omega.{arith}
 use lib.Seq.{length-take-le}
-use Rattle.replay.proofs.world.carried_out.Statement.{statement}
-use Rattle.replay.proofs.world.carried_out.Tie as tie
+use Rattle.replay.proofs.player.carried_out.Statement.{statement}
+use Rattle.replay.proofs.player.carried_out.Tie as tie
 
 at-most-requires : tie.Need-at-most-requires
 at-most-requires c κs = search needs
