@@ -111,15 +111,18 @@ abbrev pub ldgPlan : Settings → List ℕ → Status → List ℕ → ℕ → �
 ldgPlan settings x status tags t n amount =
     accept (placeOf settings (length tags) n (xOrSp x n) (ldgAddress x n amount) false) (ldgEffect settings x status tags t)
 
+abbrev pub storePlan : Settings → List ℕ → Status → ℕ → Mode → ℕ → ℕ → Bool → ℕ → Change → Judged
+storePlan settings x status g mode n amount pair tag change =
+    accept (placeOf settings g n (xOrSp x n) (addressOf mode (xOrSp x n) amount) pair)
+    (storeEffect settings x status mode n amount pair tag change)
+
 abbrev pub tagStorePlan : Settings → List ℕ → Status → ℕ → TagStoreOp → Mode → ℕ → ℕ → ℕ → Judged
 tagStorePlan settings x status g op mode t n amount =
-    accept (placeOf settings g n (xOrSp x n) (addressOf mode (xOrSp x n) amount) (isPair op))
-    (storeEffect settings x status mode n amount (isPair op) (tagOf (xOrSp x t)) (zeroing op))
+    storePlan settings x status g mode n amount (isPair op) (tagOf (xOrSp x t)) (zeroing op)
 
 abbrev pub stgpPlan : Settings → List ℕ → Status → ℕ → Mode → ℕ → ℕ → ℕ → ℕ → Judged
 stgpPlan settings x status g mode t t2 n amount =
-    accept (placeOf settings g n (xOrSp x n) (addressOf mode (xOrSp x n) amount) false)
-    (storeEffect settings x status mode n amount false (tagOf (addressOf mode (xOrSp x n) amount)) (Pair (xOrZero x t) (xOrZero x t2)))
+    storePlan settings x status g mode n amount false (tagOf (addressOf mode (xOrSp x n) amount)) (Pair (xOrZero x t) (xOrZero x t2))
 
 abbrev pub formPlan : Settings → List ℕ → Status → List ℕ → Form → Judged
 formPlan settings x status tags (AddSub op d n amount offset) =

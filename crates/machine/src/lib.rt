@@ -19,6 +19,7 @@ mod pair_store;
 mod pointers;
 mod random_tag;
 mod register_file;
+mod stores;
 mod tag_load;
 mod tag_stores;
 

@@ -3,13 +3,12 @@ ghost use mathlib.Core.Path.{_≡_};
 ghost use Rattle.machine.specs.Plans.{stgpPlan};
 use super::Change;
 use super::Judged;
-use super::Placed;
 use super::Settings;
 use super::Status;
 use super::accesses;
 use super::pointers;
 use super::register_file;
-use super::tag_stores;
+use super::stores;
 use isa::Mode;
 
 // STGP. The tag is that of the address, not of the base register.
@@ -28,26 +27,21 @@ pub(crate) fn judge_stgp(
 {
     let from = register_file::x_or_sp(x, n);
     let address = accesses::address_of(mode, from, amount);
-    match accesses::place(settings, granules, n, from, address, false) {
-        Placed::First(i) => {
-            let change = Change::Pair(
-                register_file::x_or_zero(x, t),
-                register_file::x_or_zero(x, t2),
-            );
-            let tag = pointers::tag_of(address);
-            Judged::Accepted(tag_stores::effect(
-                x,
-                settings,
-                status,
-                mode,
-                n,
-                amount,
-                false,
-                tag,
-                change,
-                i,
-            ))
-        }
-        Placed::Nowhere(code) => Judged::Refused(code),
-    }
+    let tag = pointers::tag_of(address);
+    let change = Change::Pair(
+        register_file::x_or_zero(x, t),
+        register_file::x_or_zero(x, t2),
+    );
+    stores::judge_store(
+        x,
+        settings,
+        status,
+        granules,
+        mode,
+        n,
+        amount,
+        false,
+        tag,
+        change,
+    )
 }

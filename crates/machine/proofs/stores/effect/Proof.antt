@@ -1,7 +1,7 @@
--- `machine::tag_stores::effect` meets its contract. Assumes nothing.
+-- `machine::stores::effect` meets its contract. Assumes nothing.
 use borrow.Author.Needs.{needs}
-use Rattle.machine.proofs.tag_stores.effect.Statement.{statement}
-use Rattle.machine.proofs.tag_stores.effect.Tie as tie
+use Rattle.machine.proofs.stores.effect.Statement.{statement}
+use Rattle.machine.proofs.stores.effect.Tie as tie
 
 writeback-to-requires : tie.Need-writeback-to-requires
 writeback-to-requires c κs = search needs
