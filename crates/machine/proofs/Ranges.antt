@@ -11,7 +11,7 @@ use lib.ListN.{length, getD, replicate}
 use Rattle.bits.specs.Fields.{bitsAt, withBits}
 use Rattle.bits.specs.LittleEndian.{lowBytes, bytesOf}
 use Rattle.bits.proofs.Fields.{field-lt, shift-or}
-use Rattle.tag.proofs.TagChoice.{chosen-lt}
+use Rattle.tag.proofs.TagChoice.{chosen-lt, cond-lt}
 use Rattle.tag.proofs.RandomBits.{seed-lt}
 use Rattle.memory.specs.Stores.{pairBytes, savedBytes}
 use Rattle.isa.specs.declared.Mode.{Mode}
@@ -46,7 +46,7 @@ use Rattle.machine.specs.TagStores.{isPair}
 use Rattle.machine.specs.Effects.{newBytes, Within}
 use Rattle.machine.specs.Plans.{registerEffect, storeEffect, ldgEffect, writebackTo, zeroing, accept, placeOf, formPlan, planOf, decodedFits, JudgedWithin, IfAccepted}
 use Rattle.machine.proofs.Setup.{state-sized, state-status}
-use Rattle.machine.proofs.Statuses.{cond-lt, random-tag-lt, plan-status}
+use Rattle.machine.proofs.Statuses.{random-tag-lt, plan-status}
 use Rattle.machine.proofs.Within.{accepted, plan-within}
 
 pub record StatusInRange (status : Status) : Type 0 where
@@ -125,7 +125,7 @@ moved-lt Addg v amount = mod-lt _ (omega arith)
 moved-lt Subg v amount = mod-lt _ (omega arith)
 
 or-none-le : (n : ℕ) → n ≤ 31 → orNone n ≤ 32
-or-none-le n h = omega (arith, cond-lt (eqb n 31) {a = 32} {b = n} {m = 33} (omega arith) (omega arith))
+or-none-le n h = omega (arith, cond-lt (eqb n 31) {x = 32} {y = n} {m = 33} (omega arith) (omega arith))
 
 writeback-le : (mode : Mode) (n : ℕ) → n ≤ 31 → writebackTo mode n ≤ 32
 writeback-le Post n h = omega arith

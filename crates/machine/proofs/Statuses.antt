@@ -6,7 +6,7 @@ use native.Mathlib.Omega.{arith}
 use lib.Dec.{eqb}
 use lib.ListN.{length}
 use Rattle.bits.proofs.Fields.{field-lt}
-use Rattle.tag.proofs.TagChoice.{chosen-lt}
+use Rattle.tag.proofs.TagChoice.{chosen-lt, cond-lt}
 use Rattle.isa.specs.declared.TwoSourceOp.the-variants.{Subp, Subps, Irg, Gmi}
 use Rattle.isa.specs.declared.Form.{Form}
 use Rattle.isa.specs.declared.Form.the-variants.{AddSub, TwoSource, Ldg, TagStore, Stgp}
@@ -24,10 +24,6 @@ use Rattle.machine.specs.TagLoad.{ldgAddress}
 use Rattle.machine.specs.TagStores.{isPair}
 use Rattle.machine.specs.Plans.{placeOf, ldgEffect, storeEffect, zeroing, formPlan, planOf, IfAccepted}
 use Rattle.machine.proofs.Within.{accepted}
-
-pub cond-lt : (t : Bool) {a b m : ℕ} → a < m → b < m → cond t a b < m
-cond-lt true h k = h
-cond-lt false h k = k
 
 four-bits : (n z c v : ℕ) → n < 2 → z < 2 → c < 2 → v < 2 → n * 8 + z * 4 + c * 2 + v ≤ 15
 four-bits n z c v hn hz hc hv = omega arith

@@ -1,7 +1,6 @@
 // The modelled memory: the rule on its sizes and base, the granules that an address names, and the stores.
 // A store is lent the part of the data that begins at the granule. Each function with a `requires` is public because our
 // own crates call it, with granules that they know to be inside.
-ghost use mathlib.Core.Bool.{cond};
 ghost use mathlib.Core.Path.{_≡_};
 ghost use Prim.Native.Nat.{_+_, _*_, _≤_};
 ghost use lib.ListN.{length};

@@ -44,7 +44,7 @@ module _ (start offset mask : ℕ) where
 
 -- ---- the chosen tag is below 16
 
-cond-lt : (b : Bool) {x y : ℕ} → x < 16 → y < 16 → cond b x y < 16
+pub cond-lt : (b : Bool) {x y m : ℕ} → x < m → y < m → cond b x y < m
 cond-lt true hx hy = hx
 cond-lt false hx hy = hy
 

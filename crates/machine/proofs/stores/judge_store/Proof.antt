@@ -1,10 +1,7 @@
 -- `machine::stores::judge_store` meets its contract. Assumes nothing.
 use borrow.Author.Needs.{needs}
-use mathlib.Core.Path.{_≡_}
-use Rattle.machine.specs.Accesses.{addressOf}
-use Rattle.machine.specs.Plans.{placeOf, storeEffect}
-use Rattle.machine.specs.Registers.{xOrSp}
-use Rattle.machine.proofs.Judgement.{placed-accepted, placed-refused}
+use mathlib.Core.Path.{ap}
+use Rattle.machine.specs.declared.Judged.the-variants.{Accepted}
 use Rattle.machine.proofs.stores.judge_store.Statement.{statement}
 use Rattle.machine.proofs.stores.judge_store.Tie as tie
 
@@ -29,26 +26,14 @@ enum-known-code c = search needs
 returns : tie.Need-returns
 returns c =
     let found = c .before .before .before .before in
-    let a = found .before .before .before .args in
-    let x = a .x .now in
-    let e = storeEffect (a .settings) x (a .status) (a .mode) (a .n) (a .amount) (a .pair) (a .tag) (a .change) in
-    let p = placeOf (a .settings) (a .granules) (a .n) (xOrSp x (a .n)) (addressOf (a .mode) (xOrSp x (a .n)) (a .amount)) (a .pair) in
-    let q : found .place .result ≡ p =
-    simp (found .place .ensures, found .before .address-of .ensures, found .before .before .x-or-sp .ensures) in
-    let told = c .before .before .i .given in
-    placed-accepted (found .place .result) p (told .0 .0) e (c .effect .result) q (told .1) (c .effect .ensures)
+    let place = rw (found .before .address-of .ensures, found .before .before .x-or-sp .ensures) at (found .place .ensures) in
+    rw (← place, c .before .before .i .given .1) (ap Accepted (c .effect .ensures))
 
 returns-2 : tie.Need-returns-2
 returns-2 c =
     let found = c .before .before .before in
-    let a = found .before .before .before .args in
-    let x = a .x .now in
-    let e = storeEffect (a .settings) x (a .status) (a .mode) (a .n) (a .amount) (a .pair) (a .tag) (a .change) in
-    let p = placeOf (a .settings) (a .granules) (a .n) (xOrSp x (a .n)) (addressOf (a .mode) (xOrSp x (a .n)) (a .amount)) (a .pair) in
-    let q : found .place .result ≡ p =
-    simp (found .place .ensures, found .before .address-of .ensures, found .before .before .x-or-sp .ensures) in
-    let told = c .before .code .given in
-    placed-refused (found .place .result) p (told .0 .0) e q (told .1)
+    let place = rw (found .before .address-of .ensures, found .before .before .x-or-sp .ensures) at (found .place .ensures) in
+    rw (← place, c .before .code .given .1)
 
 pub judge-store-spec : {M : Type 1} → statement M
 judge-store-spec =

@@ -1,13 +1,10 @@
 -- `machine::tag_load::judge_ldg` meets its contract. Assumes nothing.
 use borrow.Author.Needs.{needs}
 use mathlib.Core.Bool.{false}
-use mathlib.Core.Path.{_≡_, sym, _∙_}
+use mathlib.Core.Path.{ap, sym, _∙_}
 use native.Mathlib.Omega.{arith}
 use lib.ListN.{length}
-use Rattle.machine.specs.Plans.{ldgEffect, placeOf}
-use Rattle.machine.specs.Registers.{xOrSp}
-use Rattle.machine.specs.TagLoad.{ldgAddress}
-use Rattle.machine.proofs.Judgement.{placed-accepted, placed-refused}
+use Rattle.machine.specs.declared.Judged.the-variants.{Accepted}
 use Rattle.machine.proofs.Places.{place-inside}
 use Rattle.machine.proofs.tag_load.judge_ldg.Statement.{statement}
 use Rattle.machine.proofs.tag_load.judge_ldg.Tie as tie
@@ -42,26 +39,14 @@ enum-known-code c = search needs
 returns : tie.Need-returns
 returns c =
     let found = c .before .before .before .before in
-    let a = found .before .before .before .before .args in
-    let x = a .x .now in
-    let e = ldgEffect (a .settings) x (a .status) (a .tags .now) (a .t) in
-    let p = placeOf (a .settings) (length (a .tags .now)) (a .n) (xOrSp x (a .n)) (ldgAddress x (a .n) (a .amount)) false in
-    let q : found .place .result ≡ p =
-    simp (found .place .ensures, found .before .address-of .ensures, found .before .before .x-or-sp .ensures) in
-    let told = c .before .before .i .given in
-    placed-accepted (found .place .result) p (told .0 .0) e (c .effect .result) q (told .1) (c .effect .ensures)
+    let place = rw (found .before .address-of .ensures, found .before .before .x-or-sp .ensures) at (found .place .ensures) in
+    rw (← place, c .before .before .i .given .1) (ap Accepted (c .effect .ensures))
 
 returns-2 : tie.Need-returns-2
 returns-2 c =
     let found = c .before .before .before in
-    let a = found .before .before .before .before .args in
-    let x = a .x .now in
-    let e = ldgEffect (a .settings) x (a .status) (a .tags .now) (a .t) in
-    let p = placeOf (a .settings) (length (a .tags .now)) (a .n) (xOrSp x (a .n)) (ldgAddress x (a .n) (a .amount)) false in
-    let q : found .place .result ≡ p =
-    simp (found .place .ensures, found .before .address-of .ensures, found .before .before .x-or-sp .ensures) in
-    let told = c .before .code .given in
-    placed-refused (found .place .result) p (told .0 .0) e q (told .1)
+    let place = rw (found .before .address-of .ensures, found .before .before .x-or-sp .ensures) at (found .place .ensures) in
+    rw (← place, c .before .code .given .1)
 
 pub judge-ldg-spec : {M : Type 1} → statement M
 judge-ldg-spec =
