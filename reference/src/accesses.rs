@@ -31,16 +31,7 @@ impl Machine {
         if self.misaligned_sp(word) {
             return Code::SpAlign;
         }
-        let amount = match form.instruction {
-            Instruction::Stgp => SIMM7.of(word),
-            _ => IMM9.of(word),
-        };
-        let unmoved = self.register_or_sp(RN.of(word));
-        let moved = unmoved.wrapping_add(amount);
-        let address = match form.mode {
-            Some(Mode::Post) => unmoved,
-            _ => moved,
-        };
+        let (address, moved) = self.addresses_of_store(form, word);
         if !address.is_multiple_of(16) {
             return Code::Align;
         }
@@ -56,12 +47,30 @@ impl Machine {
         Code::Done
     }
 
+    /// Where a store goes, and what its base register is with the amount.
+    pub(crate) fn addresses_of_store(&self, form: &Form, word: u32) -> (u64, u64) {
+        let amount = match form.instruction {
+            Instruction::Stgp => SIMM7.of(word),
+            _ => IMM9.of(word),
+        };
+        let unmoved = self.register_or_sp(RN.of(word));
+        let moved = unmoved.wrapping_add(amount);
+        match form.mode {
+            Some(Mode::Post) => (unmoved, moved),
+            _ => (moved, moved),
+        }
+    }
+
     fn misaligned_sp(&self, word: u32) -> bool {
         RN.of(word) == SP && !self.sp.is_multiple_of(16)
     }
 
     /// The places of the granules that a store names, if all are modelled.
-    fn named_granules(&self, instruction: Instruction, address: u64) -> Option<Vec<usize>> {
+    pub(crate) fn named_granules(
+        &self,
+        instruction: Instruction,
+        address: u64,
+    ) -> Option<Vec<usize>> {
         let addresses = match instruction {
             Instruction::St2g | Instruction::Stz2g => vec![address, address.wrapping_add(16)],
             _ => vec![address],

@@ -1,5 +1,4 @@
-//! The answers of document 01, "Codes and their order". Its codes 6 and 7
-//! belong to the step back, which this machine without history does not have.
+//! The answers of document 01, "Codes and their order".
 
 #[derive(Clone, Copy, Debug, PartialEq, Eq, PartialOrd, Ord)]
 pub enum Code {
@@ -9,5 +8,7 @@ pub enum Code {
     SpAlign = 3,
     Align = 4,
     Outside = 5,
+    NoHistory = 6,
+    BadRecord = 7,
     Field = 8,
 }

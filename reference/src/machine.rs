@@ -1,5 +1,6 @@
-//! The machine of document 01 without its history: what it holds, when its
-//! setup is well formed, and which rule carries out a word.
+//! The machine of document 01 without its history and cursor: what it holds,
+//! when its part of the setup is well formed, and which rule carries out a
+//! word. The plain machine of the paper takes whole copies of it.
 
 use crate::code::Code;
 use crate::words::{form_of, Instruction};
@@ -18,8 +19,6 @@ pub struct Machine {
     pub nzcv: u8,
     pub rgsr_tag: u8,
     pub seed: u16,
-    pub next: u64,
-    pub held: u64,
     pub tags: Vec<u8>,
     pub data: Vec<u8>,
 }
@@ -36,15 +35,12 @@ impl Machine {
             nzcv: 0,
             rgsr_tag: 0,
             seed: 0,
-            next: 0,
-            held: 0,
             tags: Vec::new(),
             data: Vec::new(),
         }
     }
 
-    /// Document 01, "Sizes and shape of the setup". There are no history
-    /// words, so C = 0 and the cursor must be (0, 0).
+    /// Document 01, "Sizes and shape of the setup", but for the cursor.
     pub fn well_formed(&self) -> bool {
         self.tags.len() <= MOST_GRANULES
             && self.data.len() == 16 * self.tags.len()
@@ -52,7 +48,6 @@ impl Machine {
             && self.end() <= 1 << 56
             && self.nzcv <= 15
             && self.rgsr_tag <= 15
-            && (self.next, self.held) == (0, 0)
     }
 
     /// base + 16 × G over the whole numbers: it may exceed 64 bits.
@@ -206,19 +201,6 @@ pub mod tests {
             let mut machine = small();
             machine.rgsr_tag = number;
             assert_well_formed(machine, expected);
-        }
-    }
-
-    #[test]
-    fn cursor_is_0_0() {
-        for number in [1, 8, 1 << 32, u64::MAX] {
-            let mut machine = small();
-            machine.next = number;
-            assert_well_formed(machine.clone(), false);
-            machine.held = number;
-            assert_well_formed(machine.clone(), false);
-            machine.next = 0;
-            assert_well_formed(machine, false);
         }
     }
 

@@ -7,6 +7,9 @@ use crate::words::{Form, FORMS};
 pub const MOST_BYTES: usize = 4_194_304;
 pub const MOST_TAGS: usize = 0x10010;
 pub const MOST_DATA: usize = 0x100100;
+pub const MOST_HISTORY: usize = 0x2010;
+/// Words in the list that a run takes its words from.
+pub const MOST_LISTED: usize = 0x1000;
 
 #[derive(Debug, PartialEq)]
 pub enum Line {
@@ -20,10 +23,15 @@ pub enum Line {
     Held(u64),
     Tags(usize),
     Data(usize),
+    History(usize),
     Register(u64, u64),
     TagByte(usize, u8),
     DataByte(usize, u8),
+    HistoryWord(usize, u64),
+    ListedWord(usize, u32),
     Word(u32),
+    Run(usize),
+    Back,
     Dump(bool),
     Show,
     Decode(u32),
@@ -59,6 +67,9 @@ pub fn line(text: &[u8]) -> Option<Line> {
     if text == b"show" {
         return Some(Line::Show);
     }
+    if text == b"back" {
+        return Some(Line::Back);
+    }
     let sign = text.iter().position(|&byte| byte == b'=')?;
     let (key, values) = (&text[..sign], &text[sign + 1..]);
     setting(key, values)
@@ -78,6 +89,7 @@ fn setting(key: &[u8], values: &[u8]) -> Option<Line> {
         b"held" => Line::Held(number(values, 16)?),
         b"tags" => Line::Tags(below(number(values, 8)?, MOST_TAGS + 1)?),
         b"data" => Line::Data(below(number(values, 8)?, MOST_DATA + 1)?),
+        b"history" => Line::History(below(number(values, 8)?, MOST_HISTORY + 1)?),
         b"x" => {
             let [register, value] = numbers(values, [2, 16])?;
             Line::Register(below(register, 32)? as u64, value)
@@ -90,6 +102,14 @@ fn setting(key: &[u8], values: &[u8]) -> Option<Line> {
             let [index, byte] = numbers(values, [8, 2])?;
             Line::DataByte(below(index, MOST_DATA)?, byte as u8)
         }
+        b"log" => {
+            let [index, word] = numbers(values, [8, 16])?;
+            Line::HistoryWord(below(index, MOST_HISTORY)?, word)
+        }
+        b"list" => {
+            let [index, word] = numbers(values, [8, 8])?;
+            Line::ListedWord(below(index, MOST_LISTED)?, word as u32)
+        }
         _ => return None,
     })
 }
@@ -97,6 +117,7 @@ fn setting(key: &[u8], values: &[u8]) -> Option<Line> {
 fn call(key: &[u8], values: &[u8]) -> Option<Line> {
     Some(match key {
         b"word" => Line::Word(number(values, 8)? as u32),
+        b"run" => Line::Run(below(number(values, 8)?, MOST_LISTED + 1)?),
         b"dump" => Line::Dump(yes_or_no(values)?),
         b"decode" => Line::Decode(number(values, 8)? as u32),
         b"choose" => {
@@ -169,7 +190,7 @@ fn below(number: u64, limit: usize) -> Option<usize> {
 mod tests {
     use super::*;
 
-    const RIGHT: [&str; 32] = [
+    const RIGHT: [&str; 39] = [
         "",
         "#",
         "#show \r\0",
@@ -188,7 +209,14 @@ mod tests {
         "x=1f 0123456789abcdef",
         "tag=0001000f ff",
         "byte=001000ff 00",
+        "history=00002010",
+        "log=0000200f fedcba9876543210",
+        "list=00000fff ffffffff",
         "word=ffffffff",
+        "run=00000000",
+        "run=00000abc",
+        "run=00001000",
+        "back",
         "dump=0",
         "dump=1",
         "show",
@@ -260,6 +288,28 @@ mod tests {
             "data=00100101",
             "tag=00010010 00",
             "byte=00100100 00",
+            "history=00002011",
+            "history=ffffffff",
+            "history=0000",
+            "history=",
+            "log=00002010 0000000000000000",
+            "log=ffffffff 0000000000000000",
+            "log=00000000",
+            "log=00000000 00000000",
+            "log=0000 0000000000000000",
+            "list=00001000 00000000",
+            "list=00000000",
+            "list=00000000 0000000000000000",
+            "run=00001001",
+            "run=ffffffff",
+            "run=0001",
+            "run=",
+            "run",
+            "back=",
+            "back=0",
+            "back=1",
+            "Back",
+            "step",
             "x=20 0000000000000000",
             "x=00  0000000000000000",
             "x=000000000000000000",

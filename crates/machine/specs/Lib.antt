@@ -11,5 +11,6 @@ pub mod PairStore
 pub mod Words
 pub mod Execution
 pub mod Effects
+pub mod Inverses
 pub mod Plans
 pub mod Edges

@@ -1,8 +1,8 @@
 -- The state that words change (document 01, "The machine we model"), without history and cursor.
-use Prim.Native.Nat.{ℕ}
+use Prim.Native.Nat.{ℕ, _^_, _<_}
 use mathlib.Core.Bool.{true}
 use mathlib.Core.List.{List}
-use lib.ListN.{replicate}
+use lib.ListN.{getD, replicate}
 use Rattle.machine.specs.declared.Settings.{Settings}
 use Rattle.machine.specs.declared.Status.{Status}
 use Rattle.machine.specs.declared.Registers.{Registers}
@@ -45,3 +45,9 @@ freshOn base =
       registers = record { x = replicate 32 0; status = record { nzcv = 0; rgsr = 0; seed = 0 } };
       cursor = record { next = 0; held = 0 };
     }
+
+-- what the types of the fields say of a state: the seed has 16 bits, each data byte and each tag byte 8
+pub record Typed (s : State) : Type 0 where
+  pub seed : s .registers .status .seed < 2 ^ 16
+  pub bytes : (i : ℕ) → getD (s .bytes) i 0 < 2 ^ 8
+  pub tags : (i : ℕ) → getD (s .tags) i 0 < 2 ^ 8

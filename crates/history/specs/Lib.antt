@@ -1,0 +1,5 @@
+pub mod Records
+pub mod BadRecords
+pub mod Recording
+pub mod Ring
+pub mod Undo

@@ -1,0 +1,116 @@
+-- What an accepted word records (document 01, "History", second paragraph), and what a record restores.
+use Prim.Native.Nat.{ℕ, _+_, _*_}
+use mathlib.Core.Bool.{Bool, true, false, cond, _&&_}
+use mathlib.Core.List.{List, []}
+use lib.Dec.{eqb, ltb}
+use lib.ListN.{drop, getD}
+use lib.Seq.{sets}
+use Rattle.bits.specs.LittleEndian.{wordOf}
+use Rattle.isa.specs.declared.Mode.{Mode}
+use Rattle.isa.specs.declared.Mode.the-variants.{Post, Pre, Offset}
+use Rattle.isa.specs.declared.TwoSourceOp.{TwoSourceOp}
+use Rattle.isa.specs.declared.TwoSourceOp.the-variants.{Subp, Subps, Irg, Gmi}
+use Rattle.isa.specs.declared.TagStoreOp.{TagStoreOp}
+use Rattle.isa.specs.declared.TagStoreOp.the-variants.{Stg, Stzg, St2g, Stz2g}
+use Rattle.isa.specs.declared.Form.{Form}
+use Rattle.isa.specs.declared.Form.the-variants.{AddSub, TwoSource, Ldg, TagStore, Stgp}
+use Rattle.isa.specs.declared.Decoded.{Decoded}
+use Rattle.isa.specs.declared.Decoded.the-variants.{Is, Undefined}
+use Rattle.memory.specs.Addresses.{indexOf, named}
+use Rattle.memory.specs.Stores.{savedBytes, tagBytes}
+use Rattle.machine.specs.State.{State, stateOf}
+use Rattle.machine.specs.Registers.{xOrSp, orNone, written}
+use Rattle.machine.specs.Accesses.{addressOf}
+use Rattle.machine.specs.TagStores.{isPair}
+use Rattle.history.specs.Records.{Entry, wordsOf}
+
+-- the register: the destination or writeback target, 32 if there is neither or it is the zero register
+
+abbrev pub twoSourceTarget : TwoSourceOp → ℕ → ℕ
+twoSourceTarget Subp d = orNone d
+twoSourceTarget Subps d = orNone d
+twoSourceTarget Irg d = d
+twoSourceTarget Gmi d = orNone d
+
+abbrev pub writebackTarget : Mode → ℕ → ℕ
+writebackTarget Post n = n
+writebackTarget Pre n = n
+writebackTarget Offset n = 32
+
+abbrev pub target : Form → ℕ
+target (AddSub op d n amount offset) = d
+target (TwoSource op d n m) = twoSourceTarget op d
+target (Ldg t n amount) = orNone t
+target (TagStore op mode t n amount) = writebackTarget mode n
+target (Stgp mode t t2 n amount) = writebackTarget mode n
+
+-- LDG records no granules; stores record theirs
+abbrev pub granulesOf : Form → ℕ
+granulesOf (AddSub op d n amount offset) = 0
+granulesOf (TwoSource op d n m) = 0
+granulesOf (Ldg t n amount) = 0
+granulesOf (TagStore op mode t n amount) = named (isPair op)
+granulesOf (Stgp mode t t2 n amount) = 1
+
+-- the first one's index
+abbrev pub firstOf : Form → State → ℕ
+firstOf (AddSub op d n amount offset) s = 0
+firstOf (TwoSource op d n m) s = 0
+firstOf (Ldg t n amount) s = 0
+firstOf (TagStore op mode t n amount) s = indexOf (s .settings .base) (addressOf mode (xOrSp (s .registers .x) n) amount)
+firstOf (Stgp mode t t2 n amount) s = indexOf (s .settings .base) (addressOf mode (xOrSp (s .registers .x) n) amount)
+
+-- with data if they write data
+
+abbrev pub zeroes : TagStoreOp → Bool
+zeroes Stg = false
+zeroes Stzg = true
+zeroes St2g = false
+zeroes Stz2g = true
+
+abbrev pub writesData : Form → Bool
+writesData (AddSub op d n amount offset) = false
+writesData (TwoSource op d n m) = false
+writesData (Ldg t n amount) = false
+writesData (TagStore op mode t n amount) = zeroes op
+writesData (Stgp mode t t2 n amount) = true
+
+-- a word of old data, zero where it is not in use
+abbrev pub oldWord : Bool → List ℕ → ℕ → ℕ
+oldWord used bytes at = cond used (wordOf (drop at bytes)) 0
+
+-- the register r, n granules from i on, with their data or not, as they stand
+unfoldable pub entryFor : ℕ → ℕ → ℕ → Bool → State → Entry
+entryFor r n i saves s =
+    record {
+      register = r;
+      granules = n;
+      saved = cond saves 1 0;
+      tag = cond (ltb 0 n) (getD (s .tags) i 0) 0;
+      second = cond (ltb 1 n) (getD (s .tags) (i + 1) 0) 0;
+      nzcv = s .registers .status .nzcv;
+      rgsr = s .registers .status .rgsr;
+      seed = s .registers .status .seed;
+      value = xOrSp (s .registers .x) r;
+      first = i;
+      a = oldWord saves (s .bytes) (16 * i);
+      b = oldWord saves (s .bytes) (16 * i + 8);
+      c = oldWord (saves && ltb 1 n) (s .bytes) (16 * i + 16);
+      d = oldWord (saves && ltb 1 n) (s .bytes) (16 * i + 24);
+    }
+
+abbrev pub entryOf : Form → State → Entry
+entryOf f s = entryFor (target f) (granulesOf f) (firstOf f s) (writesData f) s
+
+-- the record of a word that is accepted on a state
+unfoldable pub recordOf : Decoded → State → List ℕ
+recordOf (Is f) s = wordsOf (entryOf f s)
+recordOf Undefined s = []
+
+-- a state with what an entry holds put back: register, NZCV and RGSR, tag bytes whole, data
+unfoldable pub restored : Entry → State → State
+restored e s =
+    stateOf (s .settings) (written (s .registers .x) (e .register) (e .value))
+    (record { nzcv = e .nzcv; rgsr = e .rgsr; seed = e .seed })
+    (cond (eqb (e .saved) 1) (sets (s .bytes) (16 * e .first) (savedBytes (eqb (e .granules) 2) (e .a) (e .b) (e .c) (e .d))) (s .bytes))
+    (cond (eqb (e .granules) 0) (s .tags) (sets (s .tags) (e .first) (tagBytes (eqb (e .granules) 2) (e .tag) (e .second))))

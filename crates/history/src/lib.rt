@@ -1,0 +1,1 @@
+// The history: records of eight words in a ring of slots.

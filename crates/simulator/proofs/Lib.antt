@@ -1,0 +1,1 @@
+-- Laws of the definitions, for the proofs here and in the crates above.

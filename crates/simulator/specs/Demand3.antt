@@ -1,0 +1,23 @@
+-- Demand 3 of document 00, as document 01, "The plain machine", has it: one claim about every list of calls.
+use mathlib.Core.Bool.{true}
+use mathlib.Core.List.{List, []}
+use mathlib.Core.Path.{_≡_}
+use lib.ListN.{length}
+use Rattle.machine.specs.State.{Typed}
+use Rattle.machine.specs.Setup.{slotsOf}
+use Rattle.simulator.specs.Calls.{Call, Ended, Machine, calls}
+use Rattle.simulator.specs.PlainMachine.{Plain, plainMachine}
+use Rattle.simulator.specs.Simulation.{Simulation, wellFormed}
+
+-- every answer, each run's count in it, and after the list the whole state
+pub record Agree (ours : Ended Simulation) (plain : Ended Plain) : Type 0 where
+  pub answers : ours .answers ≡ plain .answers
+  pub state : ours .final .state ≡ plain .final .state
+
+-- Start from any well-formed setup with an empty history: held = 0, whatever next is and its words hold. Beside it goes the plain
+-- machine, its state equal to ours at the start and its stack empty, with room for as many copies as the history has slots.
+unfoldable pub Demand3 : Machine Simulation → Type 0
+Demand3 ours =
+    (start : Simulation) → Typed (start .state) → wellFormed start ≡ true → start .history .cursor .held ≡ 0 → (list : List Call)
+    → Agree (calls ours start list)
+    (calls (plainMachine (slotsOf (length (start .history .words)))) (record { state = start .state; copies = [] }) list)

@@ -1,0 +1,5 @@
+pub mod Calls
+pub mod Simulation
+pub mod Steps
+pub mod PlainMachine
+pub mod Demand3

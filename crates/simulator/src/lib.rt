@@ -1,0 +1,1 @@
+// The simulator: steps, runs and steps back on a machine with history.
