@@ -6,8 +6,11 @@ use std::io::{self, Write};
 use crate::code::Code;
 use crate::draw::draw;
 use crate::encoder::{decode, encode};
-use crate::machine::{Machine, SP};
-use crate::script::{lines, Line, MOST_DATA, MOST_TAGS};
+use crate::facts;
+use crate::machine::SP;
+use crate::plain::Plain;
+use crate::recorded::Recorded;
+use crate::script::{lines, Line, MOST_DATA, MOST_HISTORY, MOST_LISTED, MOST_TAGS};
 use crate::tag_choice::choose;
 use crate::tally::Tally;
 use crate::words::{form_of, Form};
@@ -32,12 +35,21 @@ pub fn play(script: &[u8]) -> Played {
     }
 }
 
-/// Plays line by line.
+/// With more data than this the state is not held to the plain machine's
+/// after each call, but at the end of each list of calls.
+const SMALL_DATA: usize = 4096;
+
+/// Plays line by line. From a call on a well-formed setup with held = 0 on,
+/// the plain machine is played beside, up to the next line that sets anything
+/// of the machine. Where the two disagree, the reference itself is wrong.
 pub struct Player {
-    machine: Machine,
+    recorded: Recorded,
+    plain: Option<Plain>,
+    listed: Vec<u32>,
     kept_tags: Vec<u8>,
     kept_data: Vec<u8>,
-    state_after_word: bool,
+    kept_history: Vec<u64>,
+    state_after_call: bool,
     output: Vec<u8>,
     tally: Tally,
 }
@@ -45,10 +57,13 @@ pub struct Player {
 impl Default for Player {
     fn default() -> Player {
         Player {
-            machine: Machine::fresh(0),
+            recorded: Recorded::fresh(0),
+            plain: None,
+            listed: vec![0; MOST_LISTED],
             kept_tags: vec![0; MOST_TAGS],
             kept_data: vec![0; MOST_DATA],
-            state_after_word: true,
+            kept_history: vec![0; MOST_HISTORY],
+            state_after_call: true,
             output: Vec::new(),
             tally: Tally::default(),
         }
@@ -56,15 +71,20 @@ impl Default for Player {
 }
 
 impl Player {
-    pub fn machine(&self) -> &Machine {
-        &self.machine
+    pub fn recorded(&self) -> &Recorded {
+        &self.recorded
     }
 
     pub fn output(&self) -> &[u8] {
         &self.output
     }
 
-    pub fn played(self) -> Played {
+    pub fn tally(&mut self) -> &mut Tally {
+        &mut self.tally
+    }
+
+    pub fn played(mut self) -> Played {
+        self.end_list();
         Played {
             output: self.output,
             tally: self.tally,
@@ -72,27 +92,12 @@ impl Player {
     }
 
     pub fn play(&mut self, line: Line) {
-        let machine = &mut self.machine;
         match line {
-            Line::Fresh(base) => {
-                *machine = Machine::fresh(base);
-                self.kept_tags.fill(0);
-                self.kept_data.fill(0);
-            }
-            Line::Access(access) => machine.access = access,
-            Line::Exclude(mask) => machine.exclude = mask,
-            Line::Nzcv(flags) => machine.nzcv = flags,
-            Line::RgsrTag(tag) => machine.rgsr_tag = tag,
-            Line::Seed(seed) => machine.seed = seed,
-            Line::Next(next) => machine.next = next,
-            Line::Held(held) => machine.held = held,
-            Line::Tags(number) => resize(&mut machine.tags, &mut self.kept_tags, number),
-            Line::Data(number) => resize(&mut machine.data, &mut self.kept_data, number),
-            Line::Register(number, value) => machine.set_register_or_sp(number, value),
-            Line::TagByte(index, byte) => set(&mut machine.tags, &mut self.kept_tags, index, byte),
-            Line::DataByte(index, byte) => set(&mut machine.data, &mut self.kept_data, index, byte),
-            Line::Word(word) => self.word(word),
-            Line::Dump(wanted) => self.state_after_word = wanted,
+            Line::ListedWord(index, word) => self.listed[index] = word,
+            Line::Word(word) => self.step(word),
+            Line::Run(count) => self.run(count),
+            Line::Back => self.step_back(),
+            Line::Dump(wanted) => self.state_after_call = wanted,
             Line::Show => self.show(),
             Line::Decode(word) => self.decode(word),
             Line::Encode(form, values) => self.encode(form, &values),
@@ -106,15 +111,114 @@ impl Player {
                 self.write(format_args!("drawn={bits:x} {seed:04x}"));
             }
             Line::Nothing => {}
+            setting => {
+                self.end_list();
+                self.set(setting);
+            }
         }
     }
 
-    fn word(&mut self, word: u32) {
-        let code = self.machine.carry_out(word);
+    fn set(&mut self, line: Line) {
+        let recorded = &mut self.recorded;
+        let machine = &mut recorded.machine;
+        match line {
+            Line::Fresh(base) => {
+                *recorded = Recorded::fresh(base);
+                self.kept_tags.fill(0);
+                self.kept_data.fill(0);
+                self.kept_history.fill(0);
+                self.listed.fill(0);
+            }
+            Line::Access(access) => machine.access = access,
+            Line::Exclude(mask) => machine.exclude = mask,
+            Line::Nzcv(flags) => machine.nzcv = flags,
+            Line::RgsrTag(tag) => machine.rgsr_tag = tag,
+            Line::Seed(seed) => machine.seed = seed,
+            Line::Next(next) => recorded.next = next,
+            Line::Held(held) => recorded.held = held,
+            Line::Tags(number) => resize(&mut machine.tags, &mut self.kept_tags, number),
+            Line::Data(number) => resize(&mut machine.data, &mut self.kept_data, number),
+            Line::History(number) => resize(&mut recorded.history, &mut self.kept_history, number),
+            Line::Register(number, value) => machine.set_register_or_sp(number, value),
+            Line::TagByte(index, byte) => set(&mut machine.tags, &mut self.kept_tags, index, byte),
+            Line::DataByte(index, byte) => set(&mut machine.data, &mut self.kept_data, index, byte),
+            Line::HistoryWord(index, word) => {
+                set(&mut recorded.history, &mut self.kept_history, index, word)
+            }
+            call => unreachable!("{call:?} sets nothing"),
+        }
+    }
+
+    fn step(&mut self, word: u32) {
+        self.begin_list();
+        facts::count_step(&mut self.tally, &self.recorded);
+        let code = self.recorded.step(word);
+        if let Some(plain) = &mut self.plain {
+            assert_eq!(code, plain.step(word), "the plain machine's step");
+        }
         self.tally.count_word(form_of(word), code);
         self.write(format_args!("code={}", code as u8));
-        if self.state_after_word {
+        self.after_call();
+    }
+
+    fn run(&mut self, count: usize) {
+        self.begin_list();
+        let words = &self.listed[..count];
+        facts::count_run_begin(&mut self.tally, &self.recorded);
+        let (code, done) = self.recorded.run(words);
+        if let Some(plain) = &mut self.plain {
+            assert_eq!((code, done), plain.run(words), "the plain machine's run");
+        }
+        facts::count_run(&mut self.tally, words, code, done as usize);
+        self.write(format_args!("ran={} {done:08x}", code as u8));
+        self.after_call();
+    }
+
+    fn step_back(&mut self) {
+        self.begin_list();
+        let before = facts::before_step_back(&mut self.tally, &self.recorded);
+        let code = self.recorded.step_back();
+        if let Some(plain) = &mut self.plain {
+            assert_eq!(code, plain.step_back(), "the plain machine's step back");
+        }
+        facts::count_step_back(&mut self.tally, before, code);
+        self.write(format_args!("code={}", code as u8));
+        self.after_call();
+    }
+
+    fn begin_list(&mut self) {
+        let recorded = &self.recorded;
+        if self.plain.is_none() && recorded.held == 0 && recorded.well_formed() {
+            self.plain = Some(Plain::beside(&recorded.machine, recorded.slots()));
+            self.tally.beside.lists += 1;
+        }
+        self.tally.beside.calls += u64::from(self.plain.is_some());
+    }
+
+    fn after_call(&mut self) {
+        if self.recorded.machine.data.len() <= SMALL_DATA {
+            self.hold_to_plain();
+        }
+        if self.state_after_call {
             self.show();
+        }
+    }
+
+    fn end_list(&mut self) {
+        self.hold_to_plain();
+        self.plain = None;
+    }
+
+    fn hold_to_plain(&mut self) {
+        if let Some(plain) = &self.plain {
+            let equal = plain.state() == &self.recorded.machine;
+            assert!(
+                equal,
+                "the plain machine's state:\n{:?}\nbut with records:\n{:?}",
+                plain.state(),
+                self.recorded
+            );
+            self.tally.beside.states += 1;
         }
     }
 
@@ -141,7 +245,7 @@ impl Player {
     /// Writes the state as the lines that would set it up.
     fn show(&mut self) {
         self.tally.states += 1;
-        write_state(&self.machine, &mut self.output).expect("writing to memory");
+        write_state(&self.recorded, &mut self.output).expect("writing to memory");
     }
 
     fn write(&mut self, line: fmt::Arguments) {
@@ -149,17 +253,19 @@ impl Player {
     }
 }
 
-fn write_state(machine: &Machine, out: &mut Vec<u8>) -> io::Result<()> {
+fn write_state(recorded: &Recorded, out: &mut Vec<u8>) -> io::Result<()> {
+    let machine = &recorded.machine;
     writeln!(out, "fresh={:016x}", machine.base)?;
     writeln!(out, "access={}", u8::from(machine.access))?;
     writeln!(out, "exclude={:04x}", machine.exclude)?;
     writeln!(out, "nzcv={:02x}", machine.nzcv)?;
     writeln!(out, "rgsr={:02x}", machine.rgsr_tag)?;
     writeln!(out, "seed={:04x}", machine.seed)?;
-    writeln!(out, "next={:016x}", machine.next)?;
-    writeln!(out, "held={:016x}", machine.held)?;
+    writeln!(out, "next={:016x}", recorded.next)?;
+    writeln!(out, "held={:016x}", recorded.held)?;
     writeln!(out, "tags={:08x}", machine.tags.len())?;
     writeln!(out, "data={:08x}", machine.data.len())?;
+    writeln!(out, "history={:08x}", recorded.history.len())?;
     let registers = (0..=SP).map(|number| (number, machine.register_or_sp(number)));
     for (number, value) in registers.filter(|&(_, value)| value != 0) {
         writeln!(out, "x={number:02x} {value:016x}")?;
@@ -168,6 +274,10 @@ fn write_state(machine: &Machine, out: &mut Vec<u8>) -> io::Result<()> {
         for (index, byte) in bytes.iter().enumerate().filter(|(_, &byte)| byte != 0) {
             writeln!(out, "{key}={index:08x} {byte:02x}")?;
         }
+    }
+    let words = recorded.history.iter().enumerate();
+    for (index, word) in words.filter(|(_, &word)| word != 0) {
+        writeln!(out, "log={index:08x} {word:016x}")?;
     }
     Ok(())
 }
@@ -180,18 +290,18 @@ pub fn form_line(form: &Form, values: &[u64]) -> String {
     format!("{}={}", form.key(), numbers.join(" "))
 }
 
-/// Lends the machine another number of bytes. Those it has come back first,
-/// so that bytes past the number are kept.
-fn resize(lent: &mut Vec<u8>, kept: &mut [u8], number: usize) {
+/// Lends the machine another number of bytes or words. Those it has come back
+/// first, so that those past the number are kept.
+fn resize<T: Copy>(lent: &mut Vec<T>, kept: &mut [T], number: usize) {
     kept[..lent.len()].copy_from_slice(lent);
     lent.clear();
     lent.extend_from_slice(&kept[..number]);
 }
 
-fn set(lent: &mut [u8], kept: &mut [u8], index: usize, byte: u8) {
+fn set<T: Copy>(lent: &mut [T], kept: &mut [T], index: usize, value: T) {
     match lent.get_mut(index) {
-        Some(place) => *place = byte,
-        None => kept[index] = byte,
+        Some(place) => *place = value,
+        None => kept[index] = value,
     }
 }
 
@@ -224,6 +334,7 @@ next=0000000000000000
 held=0000000000000000
 tags=00000004
 data=00000040
+history=00000000
 x=00 0500000000001010
 tag=00000000 05
 ";
@@ -261,16 +372,23 @@ next=0000000000000001
 held=8000000000000000
 tags=00000003
 data=00000005
+history=0000000a
 x=00 0000000000000001
 x=1e 0000000000000002
 x=1f 0000000000000003
 tag=00000002 ff
 byte=00000004 80
+log=00000000 8000000000000000
+log=00000009 0000000000000001
 ";
         assert_eq!(text(&format!("{script}show\n")), script);
         let refused = format!("code=1\n{script}");
         assert_eq!(text(&format!("{script}word=91810420\n")), refused);
         assert_eq!(text(&format!("{script}word=00000000\n")), refused);
+        assert_eq!(text(&format!("{script}back\n")), refused);
+        let refused = format!("ran=1 00000000\n{script}");
+        assert_eq!(text(&format!("{script}run=00000000\n")), refused);
+        assert_eq!(text(&format!("{script}run=00000001\n")), refused);
     }
 
     #[test]
@@ -304,6 +422,105 @@ byte=00000004 80
             ""
         );
         assert_eq!(bytes("tags=00000002\ntag=00000001 07\ntags=00000001\ntag=00000001 08\ntags=00000002\nshow\n"), "tag=00000001 08");
+    }
+
+    /// S1's step with 8 history words, and its two steps back.
+    #[test]
+    fn s1_with_its_history() {
+        let script = S1.replace("word=", "history=00000008\nword=");
+        let stepped = S1_OUTPUT.replace("history=00000000", "history=00000008");
+        let log = "log=00000000 0000000000000100\nlog=00000001 0500000000001000\n";
+        let stepped =
+            format!("{stepped}{log}").replace("held=0000000000000000", "held=0000000000000001");
+        let back = stepped.replace("held=0000000000000001", "held=0000000000000000");
+        let back = back.replace("x=00 0500000000001010", "x=00 0500000000001000");
+        let back = back.replace("tag=00000000 05\n", "");
+        let again = back.replace("code=0", "code=6");
+        assert_eq!(
+            text(&format!("{script}back\nback\n")),
+            format!("{stepped}{back}{again}")
+        );
+    }
+
+    #[test]
+    fn a_run_takes_its_words_from_the_list() {
+        let script = "\
+dump=0
+tags=00000004
+data=00000040
+history=0000000f
+list=00000000 d9201400
+list=00000001 91810400
+list=00000002 91804020
+";
+        let runs = "run=00000000\nrun=00000001\nrun=00000002\nrun=00000003\nrun=00001000\n";
+        assert_eq!(
+            text(&format!("{script}{runs}back\nback\n")),
+            "ran=0 00000000\nran=0 00000001\nran=0 00000002\nran=2 00000002\nran=5 00000000\ncode=0\ncode=6\n"
+        );
+        assert_eq!(
+            text(&format!("{script}run=00000003\nrun=00000003\n")),
+            "ran=2 00000002\nran=2 00000002\n"
+        );
+        assert_eq!(
+            text(&format!(
+                "{script}fresh=0000000000000000\nrun=00000001\nlist=00000000 91810400\nrun=00000001\nback\n"
+            )),
+            "ran=2 00000000\nran=0 00000001\ncode=6\n",
+            "a fresh machine has an empty list and no history"
+        );
+    }
+
+    #[test]
+    fn history_words_past_the_number_are_kept() {
+        let words = |script: &str| {
+            let output = text(script);
+            let lines = output.lines().filter(|line| line.starts_with("log="));
+            lines.collect::<Vec<_>>().join(",")
+        };
+        assert_eq!(
+            words("log=00000001 000000000000000a\nshow\nhistory=00000002\nshow\n"),
+            "log=00000001 000000000000000a"
+        );
+        assert_eq!(
+            words("history=00002010\nlog=0000200f 000000000000000a\nhistory=00000000\nhistory=00002010\nshow\n"),
+            "log=0000200f 000000000000000a"
+        );
+        assert_eq!(
+            words(
+                "log=00000001 000000000000000a\nfresh=0000000000000000\nhistory=00000002\nshow\n"
+            ),
+            ""
+        );
+        // A record written while the number was lower stays below it.
+        assert_eq!(
+            words("history=00000011\ndump=0\nlog=00000010 000000000000000a\nhistory=00000008\nx=02 0000000000000007\nword=91810422\nhistory=00000011\nshow\n"),
+            "log=00000000 0000000000000002,log=00000001 0000000000000007,log=00000010 000000000000000a"
+        );
+    }
+
+    #[test]
+    fn the_plain_machine_is_played_beside() {
+        let script = format!("dump=0\nhistory=00000010\n{S1}");
+        let beside = |more: &str| {
+            let tally = play(format!("{script}{more}").as_bytes()).tally;
+            (tally.beside.lists, tally.beside.calls)
+        };
+        // `fresh` in S1 takes the history away again.
+        assert_eq!(beside(""), (1, 1));
+        assert_eq!(beside("word=d9201400\nback\nrun=00000001\n"), (1, 4));
+        assert_eq!(
+            beside("history=00000010\nheld=0000000000000001\nback\n"),
+            (1, 1)
+        );
+        assert_eq!(
+            beside("history=00000010\nheld=0000000000000001\nnext=0000000000000001\nback\nback\n"),
+            (2, 2),
+            "from held = 0 on"
+        );
+        assert_eq!(beside("nzcv=10\nword=d9201400\nback\n"), (1, 1));
+        assert_eq!(beside("list=00000000 d9201400\nrun=00000001\n"), (1, 2));
+        assert_eq!(beside("x=00 0000000000001000\nword=d9201400\n"), (2, 2));
     }
 
     #[test]

@@ -1,4 +1,5 @@
-//! Counts of what scripts did, so that a reader sees that nothing is starved.
+//! Counts of what scripts did, so that a reader sees that nothing is starved,
+//! and nothing is: `src/minima.rs` holds them to what is wanted at least.
 
 use std::collections::BTreeMap;
 use std::fmt;
@@ -8,21 +9,63 @@ use crate::words::{Form, FORMS};
 
 type Codes = BTreeMap<Code, u64>;
 
+/// What was played beside the plain machine and held to it.
+#[derive(Clone, Debug, Default, PartialEq)]
+pub struct Beside {
+    pub lists: u64,
+    pub calls: u64,
+    pub states: u64,
+}
+
 #[derive(Clone, Debug, Default, PartialEq)]
 pub struct Tally {
     /// By the name of the form; undefined words have none.
     words: BTreeMap<Option<&'static str>, Codes>,
+    runs: Codes,
+    steps_back: Codes,
     decodings: Codes,
     encodings: Codes,
     pub choices: u64,
     pub draws: u64,
     pub states: u64,
+    pub beside: Beside,
+    /// Cases by the name of their group and by their own.
+    cases: BTreeMap<&'static str, BTreeMap<String, u64>>,
 }
 
 impl Tally {
     pub fn count_word(&mut self, form: Option<&'static Form>, code: Code) {
         let codes = self.words.entry(form.map(|form| form.name)).or_default();
         *codes.entry(code).or_default() += 1;
+    }
+
+    pub fn count_run(&mut self, code: Code) {
+        *self.runs.entry(code).or_default() += 1;
+    }
+
+    pub fn count_step_back(&mut self, code: Code) {
+        *self.steps_back.entry(code).or_default() += 1;
+    }
+
+    pub fn count_case(&mut self, group: &'static str, name: &str) {
+        let group = self.cases.entry(group).or_default();
+        match group.get_mut(name) {
+            Some(count) => *count += 1,
+            None => drop(group.insert(name.to_string(), 1)),
+        }
+    }
+
+    pub fn cases(&self, group: &str, name: &str) -> u64 {
+        let count = self.cases.get(group).and_then(|group| group.get(name));
+        count.copied().unwrap_or(0)
+    }
+
+    pub fn runs(&self, code: Code) -> u64 {
+        self.runs.get(&code).copied().unwrap_or(0)
+    }
+
+    pub fn steps_back(&self, code: Code) -> u64 {
+        self.steps_back.get(&code).copied().unwrap_or(0)
     }
 
     pub fn count_decoding(&mut self, code: Code) {
@@ -37,11 +80,22 @@ impl Tally {
         for (name, codes) in &other.words {
             add_codes(self.words.entry(*name).or_default(), codes);
         }
+        add_codes(&mut self.runs, &other.runs);
+        add_codes(&mut self.steps_back, &other.steps_back);
         add_codes(&mut self.decodings, &other.decodings);
         add_codes(&mut self.encodings, &other.encodings);
         self.choices += other.choices;
         self.draws += other.draws;
         self.states += other.states;
+        self.beside.lists += other.beside.lists;
+        self.beside.calls += other.beside.calls;
+        self.beside.states += other.beside.states;
+        for (group, cases) in &other.cases {
+            let sum = self.cases.entry(group).or_default();
+            for (name, count) in cases {
+                *sum.entry(name.clone()).or_default() += count;
+            }
+        }
     }
 
     /// A line for each form with how its words ended, and one for the
@@ -54,6 +108,15 @@ impl Tally {
             format!("{:12} {}", name.unwrap_or("no form"), counts(codes))
         };
         names.map(line).collect::<Vec<_>>().join("\n")
+    }
+
+    /// A line for each group of cases.
+    pub fn by_case(&self) -> String {
+        let line = |(group, cases): (&&str, &BTreeMap<String, u64>)| {
+            let each = cases.iter().map(|(name, count)| format!("{name} {count}"));
+            format!("{group}: {}", each.collect::<Vec<_>>().join("; "))
+        };
+        self.cases.iter().map(line).collect::<Vec<_>>().join("\n")
     }
 
     fn all_words(&self) -> Codes {
@@ -88,11 +151,16 @@ impl fmt::Display for Tally {
         let counted = |what: &str, count: u64| (count > 0).then(|| format!("{count} {what}"));
         let parts = [
             listed("words", self.all_words()),
+            listed("runs", self.runs.clone()),
+            listed("steps back", self.steps_back.clone()),
             listed("decodings", self.decodings.clone()),
             listed("encodings", self.encodings.clone()),
             counted("choices", self.choices),
             counted("draws", self.draws),
             counted("states", self.states),
+            counted("lists beside the plain machine", self.beside.lists),
+            counted("calls in them", self.beside.calls),
+            counted("states of them compared", self.beside.states),
         ];
         let parts: Vec<String> = parts.into_iter().flatten().collect();
         out.write_str(&parts.join(", "))
@@ -118,5 +186,27 @@ mod tests {
             .by_form()
             .starts_with("ADDG         Done 2, Setup 1\nSUBG         \n"));
         assert!(sum.by_form().ends_with("no form      Undefined 2"));
+    }
+
+    #[test]
+    fn cases_add_up() {
+        let mut one = Tally::default();
+        one.count_case("ring", "full");
+        one.count_case("ring", "full");
+        one.count_case("ring", "empty");
+        one.count_run(Code::Done);
+        one.count_step_back(Code::BadRecord);
+        let mut sum = one.clone();
+        sum.add(&one);
+        sum.count_case("lists", "long");
+        assert_eq!(sum.cases("ring", "full"), 4);
+        assert_eq!(sum.cases("ring", "half"), 0);
+        assert_eq!(sum.by_case(), "lists: long 1\nring: empty 2; full 4");
+        assert_eq!(sum.runs(Code::Done), 2);
+        assert_eq!(sum.steps_back(Code::BadRecord), 2);
+        assert_eq!(
+            sum.to_string(),
+            "2 runs (Done 2), 2 steps back (BadRecord 2)"
+        );
     }
 }

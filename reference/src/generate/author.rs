@@ -3,6 +3,8 @@
 
 use crate::machine::Machine;
 use crate::player::{play, Played, Player};
+use crate::record::WORDS;
+use crate::recorded::Recorded;
 use crate::script;
 
 /// A script with what must be written for it.
@@ -60,8 +62,58 @@ impl Author {
         self.line(&format!("word={word:08x}"));
     }
 
+    pub fn history(&mut self, words: u64) {
+        self.line(&format!("history={words:08x}"));
+    }
+
+    pub fn cursor(&mut self, next: u64, held: u64) {
+        self.line(&format!("next={next:016x}"));
+        self.line(&format!("held={held:016x}"));
+    }
+
+    pub fn log(&mut self, index: u64, word: u64) {
+        self.line(&format!("log={index:08x} {word:016x}"));
+    }
+
+    /// Eight history words, from the begin of a slot on.
+    pub fn record(&mut self, slot: u64, words: &[u64; WORDS]) {
+        let places = WORDS as u64 * slot..;
+        places
+            .zip(words)
+            .for_each(|(index, &word)| self.log(index, word));
+    }
+
+    /// A run of these words, which are put in the list first.
+    pub fn run(&mut self, words: &[u32]) {
+        for (index, word) in words.iter().enumerate() {
+            self.line(&format!("list={index:08x} {word:08x}"));
+        }
+        self.line(&format!("run={:08x}", words.len()));
+    }
+
+    pub fn back(&mut self) {
+        self.line("back");
+    }
+
+    pub fn show(&mut self) {
+        self.line("show");
+    }
+
+    /// Counts a case that the author means to make.
+    pub fn case(&mut self, group: &'static str, name: &str) {
+        self.player.tally().count_case(group, name);
+    }
+
     pub fn machine(&self) -> &Machine {
-        self.player.machine()
+        &self.recorded().machine
+    }
+
+    pub fn recorded(&self) -> &Recorded {
+        self.player.recorded()
+    }
+
+    pub fn script_length(&self) -> usize {
+        self.text.len()
     }
 
     /// What must be written for the lines so far.

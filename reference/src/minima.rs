@@ -1,0 +1,1 @@
+//! Held to be filled.
