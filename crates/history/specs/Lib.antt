@@ -1,3 +1,4 @@
+pub mod History
 pub mod Records
 pub mod BadRecords
 pub mod Recording
