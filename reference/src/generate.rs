@@ -3,14 +3,19 @@
 mod author;
 mod bad_scripts;
 mod choices;
+mod chosen_words;
 mod codings;
+mod cursors;
+pub mod lists;
 mod operands;
 mod random;
-mod rows;
+pub mod records;
+pub mod rows;
+mod runs;
 mod setups;
 mod walks;
 
-pub use author::Script;
+pub use author::{Script, WHOLE};
 
 use crate::words::FORMS;
 use random::Random;
@@ -45,6 +50,17 @@ pub fn jobs(times: u64) -> Vec<Job> {
     plan.random("random walks", 18 * times, walks::small);
     plan.random("largest memory", 3 * times, walks::large);
     plan.random("near words", 4 * times, walks::near_words);
+    plan.random("lists of calls", 60 * times, lists::lists);
+    plan.random("cursors", times, cursors::bounds);
+    plan.random("runs", times, runs::short);
+    plan.random("longest runs", times, runs::longest);
+    for register in 0..=records::NO_REGISTER {
+        for access in [true, false] {
+            let damaged = move |random: &mut Random| records::damaged(random, register, access);
+            plan.random("damaged records", times, damaged);
+        }
+    }
+    plan.random("made-up histories", 4 * times, records::made_up);
     plan.random("decode", 6 * times, codings::decodings);
     for form in &FORMS {
         plan.once("encode", |_| codings::edge_encodings(form));

@@ -13,6 +13,7 @@ pub mod minima;
 pub mod plain;
 pub mod player;
 mod pointers;
+mod process;
 pub mod record;
 pub mod recorded;
 pub mod replay;

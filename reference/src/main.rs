@@ -94,9 +94,14 @@ fn replay_options(options: &[OsString]) -> Option<(u64, u64)> {
 fn replay_scripts(program: &Path, times: u64, seed: u64) -> Outcome {
     println!("replay of {}, seed {seed}", program.display());
     let summary = replay(program, &jobs(times), seed, threads());
-    summary
-        .map(|summary| summary.to_string())
-        .map_err(|failure| failure.to_string())
+    let summary = summary.map_err(|failure| failure.to_string())?;
+    match summary.wanting(times).as_slice() {
+        [] => Ok(summary.to_string()),
+        wanting => Err(format!(
+            "{summary}\nall equal, but too little is compared:\n{}",
+            wanting.join("\n")
+        )),
+    }
 }
 
 fn play_standard_input() -> ExitCode {

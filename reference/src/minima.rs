@@ -1,1 +1,241 @@
-//! Held to be filled.
+//! What the scripts must at least have made, so that a generator that stops
+//! making a case is found out.
+
+use crate::code::Code;
+use crate::facts::{MALFORMED, RESTORED, RING, RUN, RUNS, STEPS, STEPS_BACK};
+use crate::generate::lists::{self, SLOTS};
+use crate::generate::records::{BITS, ONTO};
+use crate::generate::{rows, WHOLE};
+use crate::tally::Tally;
+use crate::words::FORMS;
+
+const CURSORS: [&str; 14] = [
+    "C = 0",
+    "C = 0, held not 0",
+    "C = 0, next not 0",
+    "C = 0, neither 0",
+    "next = C - 1",
+    "next = C",
+    "next = C + 1",
+    "next = 2^64 - 1",
+    "held = 0",
+    "held = C",
+    "held = C + 1",
+    "held = 2^64 - 1",
+    "history no multiple of 8",
+    "malformed without the cursor",
+];
+
+const FAULTS: [&str; 15] = [
+    "register above 32",
+    "bits 7:6",
+    "granules 3",
+    "data saved, no granules",
+    "bits 15:11",
+    "first tag not in use",
+    "second tag not in use",
+    "bits 63:56",
+    "word 1 not in use",
+    "word 2 not in use",
+    "words 3 and 4 not in use",
+    "words 5 and 6 not in use",
+    "word 7",
+    "granules beyond G",
+    "several faults",
+];
+
+const RUN_ENDS: [(&str, u64); 14] = [
+    ("no words, none refused", 1000),
+    ("no words, malformed setup", 1000),
+    ("one word, none refused", 500),
+    ("one word, the first refused", 500),
+    ("one word, malformed setup", 300),
+    ("several words, none refused", 2000),
+    ("several words, the first refused", 1000),
+    ("several words, one in the middle refused", 1000),
+    ("several words, the last refused", 1000),
+    ("several words, malformed setup", 1000),
+    ("4096 words, none refused", 1),
+    ("4096 words, the first refused", 1),
+    ("4096 words, one in the middle refused", 1),
+    ("4096 words, the last refused", 1),
+];
+
+const RECORDS: [(&str, u64); 11] = [
+    ("well-formed", 300),
+    ("a bit of word 0 changed", 20_000),
+    ("a word not in use", 2500),
+    ("a tag not in use", 250),
+    ("word 7 not zero", 1000),
+    ("an index near G", 1000),
+    ("an index far beyond G", 2000),
+    ("a bit of words 1 to 6 changed", 2000),
+    ("random words", 500),
+    ("random word 0", 500),
+    ("made-up histories", 3000),
+];
+
+const STEPS_BACK_ENDS: [(Code, u64); 4] = [
+    (Code::Done, 40_000),
+    (Code::Setup, 3000),
+    (Code::NoHistory, 10_000),
+    (Code::BadRecord, 15_000),
+];
+
+const RUN_CODES: [(Code, u64); 6] = [
+    (Code::Done, 5000),
+    (Code::Setup, 4000),
+    (Code::Undefined, 2000),
+    (Code::SpAlign, 50),
+    (Code::Align, 200),
+    (Code::Outside, 2000),
+];
+
+/// A line for each count that is below its minimum. With so many times as
+/// many random scripts there must be so many times as much.
+pub fn wanting(tally: &Tally, times: u64) -> Vec<String> {
+    let mut counts = Counts {
+        tally,
+        times,
+        wanting: Vec::new(),
+    };
+    counts.lists();
+    counts.calls();
+    counts.records();
+    for group in [STEPS, RUNS, STEPS_BACK] {
+        CURSORS
+            .iter()
+            .for_each(|name| counts.case(group, name, 100));
+    }
+    rows::names().for_each(|name| counts.once("rows of the paper", name, 1));
+    counts.once(WHOLE, "bad", 1000);
+    counts.once(WHOLE, "played", 20);
+    counts.wanting
+}
+
+struct Counts<'a> {
+    tally: &'a Tally,
+    times: u64,
+    wanting: Vec<String>,
+}
+
+impl Counts<'_> {
+    fn lists(&mut self) {
+        let mut all = 0;
+        for slots in SLOTS {
+            let name = format!("C = {slots}");
+            all += self.tally.cases(lists::GROUP, &name);
+            self.case(lists::GROUP, &name, 900);
+        }
+        self.many("random lists", all, 5000);
+        let beside = &self.tally.beside;
+        self.many("lists beside the plain machine", beside.lists, 50_000);
+        self.many("calls beside the plain machine", beside.calls, 150_000);
+        self.many("states held to the plain machine", beside.states, 200_000);
+    }
+
+    fn calls(&mut self) {
+        for (code, minimum) in STEPS_BACK_ENDS {
+            let name = format!("steps back, {code:?}");
+            self.many(&name, self.tally.steps_back(code), minimum);
+        }
+        for (code, minimum) in RUN_CODES {
+            let name = format!("runs, {code:?}");
+            self.many(&name, self.tally.runs(code), minimum);
+        }
+        for (name, minimum) in RUN_ENDS {
+            self.case(RUN, name, minimum);
+        }
+        for form in &FORMS {
+            let name = format!("{}, accepted", form.name);
+            self.many(&name, self.tally.words(form, Code::Done), 4000);
+        }
+        for name in [
+            "step with all slots held",
+            "step into the last slot",
+            "step back into the last slot",
+        ] {
+            self.case(RING, name, 10_000);
+        }
+    }
+
+    fn records(&mut self) {
+        for register in ["X", "SP", "no register"] {
+            for shape in ["0", "1", "1, data", "2", "2, data"] {
+                for access in ["", ", access off"] {
+                    let name = format!("{register}, granules {shape}{access}");
+                    self.case(RESTORED, &name, 50);
+                }
+            }
+        }
+        FAULTS
+            .iter()
+            .for_each(|name| self.case(MALFORMED, name, 30));
+        let mut all = 0;
+        for (name, minimum) in RECORDS {
+            all += self.tally.cases(ONTO, name);
+            self.case(ONTO, name, minimum);
+        }
+        self.many(ONTO, all, 20_000);
+        (0..64).for_each(|bit| self.case(BITS, &format!("{bit:02}"), 300));
+    }
+
+    /// Of cases that more random scripts make more of.
+    fn case(&mut self, group: &str, name: &str, minimum: u64) {
+        let count = self.tally.cases(group, name);
+        self.many(&format!("{group}: {name}"), count, minimum);
+    }
+
+    fn many(&mut self, name: &str, count: u64, minimum: u64) {
+        self.at_least(name, count, self.times * minimum);
+    }
+
+    /// Of cases that are the same however many random scripts there are.
+    fn once(&mut self, group: &str, name: &str, minimum: u64) {
+        let count = self.tally.cases(group, name);
+        self.at_least(&format!("{group}: {name}"), count, minimum);
+    }
+
+    fn at_least(&mut self, name: &str, count: u64, minimum: u64) {
+        if count < minimum {
+            let text = format!("{name}: {count}, at least {minimum} are wanted");
+            self.wanting.push(text);
+        }
+    }
+}
+
+#[cfg(test)]
+mod tests {
+    use super::*;
+
+    #[test]
+    fn everything_is_wanting_where_nothing_was_made() {
+        let nothing = wanting(&Tally::default(), 1);
+        assert!(nothing.len() > 200, "{}", nothing.len());
+        for name in [
+            "random lists: C = 7: 0, at least 900 are wanted",
+            "malformed: word 7: 0, at least 30 are wanted",
+            "runs: 4096 words, the last refused: 0, at least 1 are wanted",
+            "steps back, BadRecord: 0, at least 15000 are wanted",
+            "rows of the paper: S1 and two steps back: 0, at least 1 are wanted",
+        ] {
+            assert!(nothing.iter().any(|line| line == name), "{name}");
+        }
+    }
+
+    #[test]
+    fn a_count_is_held_to_its_minimum() {
+        let mut tally = Tally::default();
+        let missing = |tally: &Tally, times| {
+            let lines = wanting(tally, times);
+            lines
+                .iter()
+                .filter(|line| line.starts_with("runs: 4096 words"))
+                .count()
+        };
+        assert_eq!(missing(&tally, 1), 4);
+        tally.count_case(RUN, "4096 words, the last refused");
+        assert_eq!(missing(&tally, 1), 3);
+        assert_eq!(missing(&tally, 2), 4);
+    }
+}

@@ -4,14 +4,16 @@ use std::collections::BTreeMap;
 use std::env;
 use std::fmt;
 use std::fs;
-use std::io::{self, Read, Write};
 use std::path::{Path, PathBuf};
-use std::process::{Command, ExitStatus, Stdio};
+use std::process::Command;
 use std::sync::atomic::{AtomicUsize, Ordering};
 use std::sync::Mutex;
 use std::thread;
+use std::time::Duration;
 
 use crate::generate::{Job, Script};
+use crate::minima::wanting;
+use crate::process::{run, Ended};
 use crate::tally::Tally;
 
 /// The first line on which the two disagree, counted from 1; nothing where
@@ -53,29 +55,26 @@ impl fmt::Display for Differing {
     }
 }
 
-/// What the program wrote for a script, and how it ended.
-fn run(program: &Path, script: &[u8]) -> io::Result<(Vec<u8>, ExitStatus)> {
-    let mut child = Command::new(program)
-        .stdin(Stdio::piped())
-        .stdout(Stdio::piped())
-        .spawn()?;
-    let mut input = child.stdin.take().expect("stdin is piped");
-    let mut output = child.stdout.take().expect("stdout is piped");
-    let mut written = Vec::new();
-    thread::scope(|scope| {
-        // A program may stop reading early, as of a script that is too long.
-        scope.spawn(move || input.write_all(script).ok());
-        output.read_to_end(&mut written)
-    })?;
-    Ok((written, child.wait()?))
-}
+/// How long a program may take for one script.
+const LIMIT: Duration = Duration::from_secs(120);
+/// Of an output that is too long, no more than this is read.
+const TOO_MUCH: usize = 65_536;
 
 /// Why one script failed, or nothing. The manual promises nothing of the exit
 /// status, so only a program ended by a signal is blamed for its end.
-fn complaint(program: &Path, script: &Script) -> Option<String> {
-    match run(program, &script.text) {
+fn complaint(program: &Path, script: &Script, limit: Duration) -> Option<String> {
+    let expected = &script.played.output;
+    let most_output = expected.len() + TOO_MUCH;
+    match run(&mut Command::new(program), &script.text, most_output, limit) {
         Err(error) => Some(format!("{} cannot be run: {error}", program.display())),
-        Ok((written, status)) => match first_difference(&script.played.output, &written) {
+        Ok(Ended { status: None, .. }) => {
+            Some(format!("not ended after {} s, and killed", limit.as_secs()))
+        }
+        Ok(Ended {
+            output,
+            status: Some(status),
+            ..
+        }) => match first_difference(expected, &output) {
             Some(differing) => Some(differing.to_string()),
             None if status.code().is_none() => Some(format!("right output, but {status}")),
             None => None,
@@ -106,6 +105,15 @@ impl Summary {
         counts.bytes_out += script.played.output.len();
         counts.tally.add(&script.played.tally);
     }
+
+    /// What there is too little of.
+    pub fn wanting(&self, times: u64) -> Vec<String> {
+        let mut all = Tally::default();
+        self.kinds
+            .values()
+            .for_each(|counts| all.add(&counts.tally));
+        wanting(&all, times)
+    }
 }
 
 impl fmt::Display for Summary {
@@ -122,7 +130,8 @@ impl fmt::Display for Summary {
             all.add(tally);
         }
         writeln!(out, "all: {all}")?;
-        write!(out, "{}", all.by_form())
+        writeln!(out, "{}", all.by_form())?;
+        write!(out, "{}", all.by_case())
     }
 }
 
@@ -173,7 +182,7 @@ pub fn replay(program: &Path, jobs: &[Job], seed: u64, threads: usize) -> Result
     let work = || {
         while let Some((place, job)) = take(jobs, &next) {
             let script = job.script(seed);
-            match complaint(program, &script) {
+            match complaint(program, &script, LIMIT) {
                 None => summary
                     .lock()
                     .expect("no thread panics")
@@ -262,8 +271,19 @@ mod tests {
     #[test]
     fn a_program_need_not_read_its_script() {
         let script = Script::of(vec![b'\n'; 4_194_304]);
-        assert_eq!(complaint(Path::new("true"), &script), None);
-        let missing = complaint(Path::new("/no/such/program"), &script);
+        assert_eq!(complaint(Path::new("true"), &script, LIMIT), None);
+        let missing = complaint(Path::new("/no/such/program"), &script, LIMIT);
         assert!(missing.is_some_and(|text| text.contains("cannot be run")));
+    }
+
+    #[test]
+    fn a_program_that_does_not_end_is_blamed() {
+        // `yes` writes for ever; what it writes is wrong at once.
+        let script = Script::of(b"show\n".to_vec());
+        let endless = complaint(Path::new("yes"), &script, LIMIT);
+        assert!(endless.is_some_and(|text| text.contains("program:   y\\n")));
+        // No time at all is too short for any program.
+        let hanging = complaint(Path::new("cat"), &script, Duration::ZERO);
+        assert_eq!(hanging.as_deref(), Some("not ended after 0 s, and killed"));
     }
 }

@@ -60,6 +60,14 @@ impl Tally {
         count.copied().unwrap_or(0)
     }
 
+    pub fn words(&self, form: &Form, code: Code) -> u64 {
+        let codes = self.words.get(&Some(form.name));
+        codes
+            .and_then(|codes| codes.get(&code))
+            .copied()
+            .unwrap_or(0)
+    }
+
     pub fn runs(&self, code: Code) -> u64 {
         self.runs.get(&code).copied().unwrap_or(0)
     }

@@ -13,10 +13,16 @@ pub struct Script {
     pub played: Played,
 }
 
+/// The group of cases that scripts given whole are.
+pub const WHOLE: &str = "scripts given whole";
+
 impl Script {
     /// A script that may be bad.
     pub fn of(text: Vec<u8>) -> Script {
-        let played = play(&text);
+        let mut played = play(&text);
+        let bad = played.output.starts_with(b"bad=");
+        let name = if bad { "bad" } else { "played" };
+        played.tally.count_case(WHOLE, name);
         Script { text, played }
     }
 }
@@ -110,10 +116,6 @@ impl Author {
 
     pub fn recorded(&self) -> &Recorded {
         self.player.recorded()
-    }
-
-    pub fn script_length(&self) -> usize {
-        self.text.len()
     }
 
     /// What must be written for the lines so far.

@@ -4,7 +4,7 @@ use super::random::Random;
 use crate::script::MOST_BYTES;
 
 /// A right line of every kind, with letters among its digits where it can.
-const RIGHT: [&str; 32] = [
+const RIGHT: [&str; 37] = [
     "fresh=00000000000abcd0",
     "access=1",
     "exclude=00ef",
@@ -18,7 +18,12 @@ const RIGHT: [&str; 32] = [
     "x=1a 0123456789abcdef",
     "tag=0000000c 0d",
     "byte=0000000c ef",
+    "history=0000001a",
+    "log=0000001c 0123456789abcdef",
+    "list=00000abc d9201400",
     "word=d9201400",
+    "run=0000000a",
+    "back",
     "dump=1",
     "show",
     "decode=9adf1020",
@@ -40,7 +45,7 @@ const RIGHT: [&str; 32] = [
 ];
 
 /// Lines at their limits, right or wrong by one.
-const AT_LIMITS: [&str; 40] = [
+const AT_LIMITS: [&str; 69] = [
     "access=2",
     "access=9",
     "access=a",
@@ -64,6 +69,35 @@ const AT_LIMITS: [&str; 40] = [
     "byte=001000ff 01",
     "byte=00100100 01",
     "byte=ffffffff 01",
+    "history=00002010",
+    "history=00002011",
+    "history=00003010",
+    "history=00012010",
+    "history=80000008",
+    "history=ffffffff",
+    "log=0000200f 0000000000000001",
+    "log=00002010 0000000000000001",
+    "log=00003000 0000000000000001",
+    "log=80000000 0000000000000001",
+    "log=ffffffff 0000000000000001",
+    "log=00000000 00000001",
+    "log=00000000 00000000000000001",
+    "log=0000 0000000000000001",
+    "log=00000000",
+    "log=00000000 ",
+    "list=00000fff d9201400",
+    "list=00001000 d9201400",
+    "list=00002000 d9201400",
+    "list=ffffffff d9201400",
+    "list=00000000 0000000091810420",
+    "list=00000000",
+    "run=00001000",
+    "run=00001001",
+    "run=00002000",
+    "run=80000000",
+    "run=ffffffff",
+    "run=00000001 00000001",
+    "run=0001",
     "x=1e 0000000000000001",
     "x=1f 0000000000000001",
     "x=20 0000000000000001",
@@ -84,7 +118,7 @@ const AT_LIMITS: [&str; 40] = [
 ];
 
 /// Lines of no kind.
-const OF_NO_KIND: [&str; 26] = [
+const OF_NO_KIND: [&str; 42] = [
     " ",
     "\r",
     "\0",
@@ -99,6 +133,22 @@ const OF_NO_KIND: [&str; 26] = [
     "Show",
     "sho",
     "shows",
+    "back=",
+    "back=0",
+    "back=1",
+    "back 1",
+    "Back",
+    "bac",
+    "backs",
+    "backward",
+    "step",
+    "history",
+    "history=",
+    "log=",
+    "list=",
+    "run",
+    "run=",
+    "ran=0 00000000",
     "fresh",
     "fresh=",
     "word",
@@ -267,6 +317,29 @@ mod tests {
     fn the_right_lines_are_right() {
         for text in RIGHT {
             assert!(line(text.as_bytes()).is_some(), "{text}");
+        }
+    }
+
+    #[test]
+    fn every_kind_of_line_is_made_wrong_in_many_ways() {
+        for text in RIGHT.iter().filter(|text| !text.starts_with('#')) {
+            let changed = changes(text);
+            let wrong = changed.iter().filter(|text| line(text).is_none());
+            let least = if text.contains('=') { 15 } else { 8 };
+            assert!(wrong.count() >= least, "{text}");
+        }
+    }
+
+    #[test]
+    fn the_limits_are_tried_on_both_sides() {
+        for key in [
+            "history", "log", "list", "run", "tags", "data", "tag", "byte",
+        ] {
+            let of_key = |text: &&&str| text.split('=').next() == Some(key);
+            let tried: Vec<_> = AT_LIMITS.iter().filter(of_key).collect();
+            let right = tried.iter().filter(|text| line(text.as_bytes()).is_some());
+            let right = right.count();
+            assert!(right >= 1 && right < tried.len(), "{key}");
         }
     }
 

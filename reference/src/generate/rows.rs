@@ -26,7 +26,7 @@ const fn row(name: &'static str, given: &'static str, result: &'static str) -> R
 }
 
 #[rustfmt::skip]
-const ROWS: [Row; 22] = [
+const ROWS: [Row; 25] = [
     row("P1", "x=01 0200000000001000,word=91810420", "code=0,x=00 0300000000001010"),
     row("P2", "x=01 0200000000001000,exclude=0008,word=91810420", "code=0,x=00 0400000000001010"),
     row("P3", "x=01 0200000000001000,exclude=ffff,word=91810420", "code=0,x=00 0000000000001010"),
@@ -51,12 +51,19 @@ const ROWS: [Row; 22] = [
     row("15 of ST2G", "word=d9a00001", "code=2"),
     row("16", "x=01 0300000000001000,word=9adf1422", "code=0,x=02 0000000000000008"),
     row("S1", "x=00 0500000000001000,word=d9201400", "code=0,x=00 0500000000001010,tag=00000000 05"),
+    row("S1 with 8 history words", "x=00 0500000000001000,history=00000008,word=d9201400", "code=0,log=00000000 0000000000000100,log=00000001 0500000000001000"),
+    row("S1 and a step back", "x=00 0500000000001000,history=00000008,dump=0,word=d9201400,dump=1,back", "code=0,x=00 0500000000001000,held=0000000000000000,log=00000000 0000000000000100,log=00000001 0500000000001000"),
+    row("S1 and two steps back", "x=00 0500000000001000,history=00000008,dump=0,word=d9201400,back,dump=1,back", "code=6,x=00 0500000000001000,held=0000000000000000,log=00000000 0000000000000100,log=00000001 0500000000001000"),
     // P9 again with a tag to store, so that both granules show.
     row("P9 with a tag", "x=00 0000000000001020,x=01 0900000000000000,word=d9a00801", "code=0,tag=00000002 09,tag=00000003 09"),
     // P10 and P12 with all else in order, so that the codes are those alone.
     row("P10 mended", "x=00 0000000000001000,byte=0000000f 01,x=01 0900000000000000,word=d9600801", "code=0,tag=00000000 09"),
     row("P12 mended", "x=1f 0000000000001030,x=00 0900000000000000,word=d9200be0", "code=0,tag=00000003 09"),
 ];
+
+pub fn names() -> impl Iterator<Item = &'static str> {
+    ROWS.iter().map(|row| row.name)
+}
 
 /// All rows. The reference itself is held to their results first.
 pub fn all() -> Script {
@@ -66,6 +73,7 @@ pub fn all() -> Script {
         let before = author.output().len();
         let lines = row.setup.split(',').chain(row.given.split(','));
         lines.for_each(|line| author.line(line));
+        author.case("rows of the paper", row.name);
         let answer = String::from_utf8_lossy(&author.output()[before..]).into_owned();
         for wanted in row.result.split(',') {
             let given = answer.lines().any(|line| line == wanted);

@@ -1,5 +1,6 @@
 //! Setups by each rule, at its edge and one past it, each with words that are
-//! else accepted, undefined or refused for another reason.
+//! else accepted, undefined or refused for another reason, with runs and with
+//! steps back.
 
 use super::author::{Author, Script};
 use super::operands::{any_form, any_word};
@@ -104,16 +105,18 @@ const LARGE_SIZES: [Sizes; 14] = [
 pub fn single_rules() -> Script {
     let mut author = Author::default();
     for access in [1, 0] {
-        for (broken, mended) in SINGLE_RULES {
-            begin(&mut author, &matching(0x1000, 4), access);
-            author.line(broken);
-            words(&mut author);
-            author.line(mended);
-            words(&mut author);
-        }
-        for sizes in small_sizes() {
-            begin(&mut author, &sizes, access);
-            words(&mut author);
+        for slots in 0..3 {
+            for (broken, mended) in SINGLE_RULES {
+                begin(&mut author, &matching(0x1000, 4), access, slots);
+                author.line(broken);
+                calls(&mut author);
+                author.line(mended);
+                calls(&mut author);
+            }
+            for sizes in small_sizes() {
+                begin(&mut author, &sizes, access, slots);
+                calls(&mut author);
+            }
         }
     }
     author.finish()
@@ -124,9 +127,11 @@ pub fn large_sizes() -> Script {
     let mut author = Author::default();
     author.line("dump=0");
     for sizes in &LARGE_SIZES {
-        begin(&mut author, sizes, 1);
-        words(&mut author);
-        author.line("show");
+        for slots in [0, 2] {
+            begin(&mut author, sizes, 1, slots);
+            calls(&mut author);
+            author.show();
+        }
     }
     author.finish()
 }
@@ -137,12 +142,13 @@ pub fn several_rules(random: &mut Random) -> Script {
     let small = small_sizes();
     for _ in 0..400 {
         let sizes = &small[random.below(small.len() as u64) as usize];
-        begin(&mut author, sizes, random.below(2) as u8);
+        let slots = random.pick(&[0, 0, 1, 2, 3]);
+        begin(&mut author, sizes, random.below(2) as u8, slots);
         for _ in 0..random.below(4) {
             let (broken, mended) = random.pick(&SINGLE_RULES);
             author.line(random.pick(&[broken, mended]));
         }
-        words(&mut author);
+        calls(&mut author);
         for _ in 0..4 {
             let form = any_form(random);
             author.word(any_word(random, form));
@@ -151,7 +157,8 @@ pub fn several_rules(random: &mut Random) -> Script {
     author.finish()
 }
 
-fn begin(author: &mut Author, sizes: &Sizes, access: u8) {
+/// With slots, one step is held: the one that set X4.
+fn begin(author: &mut Author, sizes: &Sizes, access: u8, slots: u64) {
     author.fresh(sizes.base);
     author.line(&format!("tags={:08x}", sizes.tags));
     author.line(&format!("data={:08x}", sizes.data));
@@ -164,8 +171,19 @@ fn begin(author: &mut Author, sizes: &Sizes, access: u8) {
     author.register(5, 0x0900_0000_0000_0000);
     author.register(31, first + 8);
     author.tag(0, 0xF7);
+    if slots > 0 {
+        author.history(8 * slots + 3);
+        author.log(8 * (slots - 1), 0x00AB_CD56_0000_0004);
+        author.log(8 * (slots - 1) + 1, 0x1234);
+        author.log(8 * slots + 2, u64::MAX);
+        author.line("held=0000000000000001");
+    }
 }
 
-fn words(author: &mut Author) {
+/// Every word as a step, then runs of no words and of three, and a step back.
+fn calls(author: &mut Author) {
     WORDS.iter().for_each(|&word| author.word(word));
+    author.run(&[]);
+    author.run(&[WORDS[0], WORDS[2], WORDS[4]]);
+    author.back();
 }

@@ -1,5 +1,5 @@
 //! Random walks: a setup, and words whose operands are set to edges or left
-//! as the words before left them.
+//! as the words before left them, with a step back now and then.
 
 use super::author::{Author, Script};
 use super::operands::{
@@ -25,9 +25,14 @@ pub fn small(random: &mut Random) -> Script {
     for _ in 0..SETUPS {
         let granules = random.pick(&[0, 1, 1, 2, 2, 2, 3, 4, 4, 5, 8, 17, 64]);
         setup(&mut author, random, granules);
+        let slots = random.pick(&[0, 0, 0, 1, 2, 3]);
+        author.history(8 * slots + random.below(8));
         author.line(&format!("dump={}", u8::from(granules <= FEW_GRANULES)));
         for number in 1..=WORDS {
             word(&mut author, random);
+            if slots > 0 && random.one_in(6) {
+                author.back();
+            }
             if granules > FEW_GRANULES && number % 16 == 0 {
                 author.line("show");
             }
@@ -42,8 +47,13 @@ pub fn large(random: &mut Random) -> Script {
     author.line("dump=0");
     for _ in 0..LARGE_SETUPS {
         setup(&mut author, random, MOST_GRANULES as u64);
+        let slots = random.pick(&[0, 1, 7]);
+        author.history(8 * slots + random.below(8));
         for _ in 0..LARGE_WORDS {
             word(&mut author, random);
+            if slots > 0 && random.one_in(4) {
+                author.back();
+            }
         }
         author.line("show");
     }
@@ -68,8 +78,8 @@ pub fn near_words(random: &mut Random) -> Script {
     author.finish()
 }
 
-/// Any machine with a well-formed setup.
-fn setup(author: &mut Author, random: &mut Random, granules: u64) {
+/// Any machine with a well-formed setup, and no history.
+pub fn setup(author: &mut Author, random: &mut Random, granules: u64) {
     author.fresh(base(random, granules));
     author.granules(granules);
     author.line(&format!("access={}", u8::from(!random.one_in(4))));
@@ -90,6 +100,14 @@ fn setup(author: &mut Author, random: &mut Random, granules: u64) {
     for _ in 0..6 {
         let value = pointer(random, author.machine());
         author.register(register(random), value);
+    }
+}
+
+/// Registers with addresses of the memory.
+pub fn some_addresses(author: &mut Author, random: &mut Random) {
+    for number in [0, 1, 2, 3, 30, 31] {
+        let value = address(random, author.machine(), 1);
+        author.register(number, value);
     }
 }
 
