@@ -1,5 +1,6 @@
 pub mod Calls
 pub mod Simulation
 pub mod Steps
+pub mod Taking
 pub mod PlainMachine
 pub mod Demand3
