@@ -3,12 +3,12 @@
 mod author;
 mod bad_scripts;
 mod choices;
-mod chosen_words;
+pub(crate) mod chosen_words;
 mod codings;
 mod cursors;
 pub mod lists;
-mod operands;
-mod random;
+pub(crate) mod operands;
+pub(crate) mod random;
 pub mod records;
 pub mod rows;
 mod runs;

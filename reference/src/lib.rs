@@ -2,6 +2,7 @@
 //! of it with any other answer. Nothing in here needs the library under test.
 
 mod accesses;
+pub mod bench;
 pub mod code;
 pub mod compare;
 pub mod draw;

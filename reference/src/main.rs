@@ -1,6 +1,6 @@
 //! Compares the reference with the library or with a program under test, one
-//! subcommand for each thing compared. Exit status: 0 all equal, 1 a
-//! difference, 2 misuse.
+//! subcommand for each thing compared, and times a program beside a plain
+//! loop. Exit status: 0 all equal, 1 a difference, 2 misuse.
 
 mod library;
 
@@ -11,6 +11,7 @@ use std::path::Path;
 use std::process::ExitCode;
 use std::thread;
 
+use reference::bench;
 use reference::compare;
 use reference::generate::jobs;
 use reference::player::play;
@@ -19,7 +20,9 @@ use reference::replay::replay;
 const USAGE: &str = "\
 usage: reference tag-choice | word-code
        reference replay PROGRAM [--long] [--seed NUMBER]
-       reference play <SCRIPT";
+       reference play <SCRIPT
+       reference bench PROGRAM
+       reference bench-loop <WORKLOAD";
 const ALL_WORDS: u64 = 1 << 32;
 /// A replay repeats the same scripts unless it is told another seed.
 const USUAL_SEED: u64 = 1;
@@ -34,7 +37,11 @@ fn main() -> ExitCode {
     let outcome = match arguments.as_slice() {
         [name] if name == "tag-choice" => tag_choice(),
         [name] if name == "word-code" => word_code(),
-        [name] if name == "play" => return play_standard_input(),
+        [name] if name == "play" => return answer_standard_input(|script| play(script).output),
+        [name] if name == "bench-loop" => {
+            return answer_standard_input(|workload| bench::answer(workload).into_bytes())
+        }
+        [name, program] if name == "bench" => time_beside_loop(Path::new(program)),
         [name, program, options @ ..] if name == "replay" => match replay_options(options) {
             Some((times, seed)) => replay_scripts(Path::new(program), times, seed),
             None => return misuse(),
@@ -104,10 +111,15 @@ fn replay_scripts(program: &Path, times: u64, seed: u64) -> Outcome {
     }
 }
 
-fn play_standard_input() -> ExitCode {
-    let mut script = Vec::new();
-    let read = io::stdin().read_to_end(&mut script);
-    let written = read.and_then(|_| io::stdout().write_all(&play(&script).output));
+fn time_beside_loop(program: &Path) -> Outcome {
+    let own = env::current_exe().map_err(|error| error.to_string())?;
+    bench::bench(program, &own)
+}
+
+fn answer_standard_input(answer: impl Fn(&[u8]) -> Vec<u8>) -> ExitCode {
+    let mut input = Vec::new();
+    let read = io::stdin().read_to_end(&mut input);
+    let written = read.and_then(|_| io::stdout().write_all(&answer(&input)));
     match written {
         Ok(()) => ExitCode::SUCCESS,
         Err(error) => {
