@@ -77,14 +77,14 @@ const RECORDS: [(&str, u64); 11] = [
 
 const STEPS_BACK_ENDS: [(Code, u64); 4] = [
     (Code::Done, 40_000),
-    (Code::Setup, 3000),
+    (Code::Setup, 2000),
     (Code::NoHistory, 10_000),
     (Code::BadRecord, 15_000),
 ];
 
 const RUN_CODES: [(Code, u64); 6] = [
     (Code::Done, 5000),
-    (Code::Setup, 4000),
+    (Code::Setup, 2500),
     (Code::Undefined, 2000),
     (Code::SpAlign, 50),
     (Code::Align, 200),

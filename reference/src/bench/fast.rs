@@ -36,43 +36,6 @@ pub struct Machine {
     pub history: Vec<Slot>,
 }
 
-/// What the top eleven bits of a word leave open.
-#[derive(Clone, Copy)]
-enum Top {
-    None,
-    Addg,
-    Subg,
-    SubpIrgGmi,
-    Subps,
-    Stg,
-    StzgLdg,
-    St2g,
-    Stz2g,
-    StgpPost,
-    StgpPre,
-    StgpOffset,
-}
-
-const TOPS: [Top; 2048] = {
-    let mut tops = [Top::None; 2048];
-    let mut one = 0;
-    while one < 2 {
-        tops[0x48C + one] = Top::Addg;
-        tops[0x68C + one] = Top::Subg;
-        tops[0x344 + one] = Top::StgpPost;
-        tops[0x34C + one] = Top::StgpPre;
-        tops[0x348 + one] = Top::StgpOffset;
-        one += 1;
-    }
-    tops[0x4D6] = Top::SubpIrgGmi;
-    tops[0x5D6] = Top::Subps;
-    tops[0x6C9] = Top::Stg;
-    tops[0x6CB] = Top::StzgLdg;
-    tops[0x6CD] = Top::St2g;
-    tops[0x6CF] = Top::Stz2g;
-    tops
-};
-
 const POST: u32 = 1;
 const OFFSET: u32 = 2;
 const PRE: u32 = 3;
@@ -117,26 +80,26 @@ impl Machine {
 
     #[inline(always)]
     fn step<const RECORDS: bool>(&mut self, word: u32) -> u8 {
-        match TOPS[(word >> 21) as usize] {
-            Top::Addg if word & 0xC000 == 0 => self.addg::<RECORDS>(word, amount_6(word)),
-            Top::Subg if word & 0xC000 == 0 => {
+        match word >> 21 {
+            0x48C | 0x48D if word & 0xC000 == 0 => self.addg::<RECORDS>(word, amount_6(word)),
+            0x68C | 0x68D if word & 0xC000 == 0 => {
                 self.addg::<RECORDS>(word, amount_6(word).wrapping_neg())
             }
-            Top::SubpIrgGmi => match word >> 10 & 63 {
+            0x4D6 => match word >> 10 & 63 {
                 0 => self.subp::<RECORDS, false>(word),
                 4 => self.irg::<RECORDS>(word),
                 5 => self.gmi::<RECORDS>(word),
                 _ => UNDEFINED,
             },
-            Top::Subps if word >> 10 & 63 == 0 => self.subp::<RECORDS, true>(word),
-            Top::Stg => self.tag_store::<RECORDS, false, false>(word),
-            Top::StzgLdg if word >> 10 & 3 == 0 => self.ldg::<RECORDS>(word),
-            Top::StzgLdg => self.tag_store::<RECORDS, false, true>(word),
-            Top::St2g => self.tag_store::<RECORDS, true, false>(word),
-            Top::Stz2g => self.tag_store::<RECORDS, true, true>(word),
-            Top::StgpPost => self.stgp::<RECORDS, POST>(word),
-            Top::StgpPre => self.stgp::<RECORDS, PRE>(word),
-            Top::StgpOffset => self.stgp::<RECORDS, OFFSET>(word),
+            0x5D6 if word >> 10 & 63 == 0 => self.subp::<RECORDS, true>(word),
+            0x6C9 => self.tag_store::<RECORDS, false, false>(word),
+            0x6CB if word >> 10 & 3 == 0 => self.ldg::<RECORDS>(word),
+            0x6CB => self.tag_store::<RECORDS, false, true>(word),
+            0x6CD => self.tag_store::<RECORDS, true, false>(word),
+            0x6CF => self.tag_store::<RECORDS, true, true>(word),
+            0x344 | 0x345 => self.stgp::<RECORDS, POST>(word),
+            0x34C | 0x34D => self.stgp::<RECORDS, PRE>(word),
+            0x348 | 0x349 => self.stgp::<RECORDS, OFFSET>(word),
             _ => UNDEFINED,
         }
     }
