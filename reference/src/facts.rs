@@ -119,7 +119,7 @@ pub fn count_step_back(tally: &mut Tally, onto: Onto, code: Code) {
 /// The numbers at and past each bound of the cursor.
 fn count_cursor(tally: &mut Tally, group: &'static str, recorded: &Recorded) {
     let (slots, next, held) = (recorded.slots(), recorded.next, recorded.held);
-    if recorded.history.len() % 8 != 0 {
+    if !recorded.history.len().is_multiple_of(8) {
         tally.count_case(group, "history no multiple of 8");
     }
     if !recorded.machine.well_formed() {
