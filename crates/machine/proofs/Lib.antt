@@ -6,6 +6,7 @@ pub mod Judgement
 pub mod Outcomes
 pub mod Places
 pub mod Ranges
+pub mod Refusals
 pub mod Setup
 pub mod Statuses
 pub mod StoreEffects
