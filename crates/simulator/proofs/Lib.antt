@@ -1,2 +1,4 @@
 -- Laws of the definitions, for the proofs here and in the crates above.
 pub mod Taking
+pub mod Kept
+pub mod Cursors
