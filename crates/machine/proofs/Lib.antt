@@ -4,6 +4,7 @@ pub mod Edges
 pub mod Granules
 pub mod Judgement
 pub mod Outcomes
+pub mod Parts
 pub mod Places
 pub mod Ranges
 pub mod Refusals

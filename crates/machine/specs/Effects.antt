@@ -50,5 +50,5 @@ room (Words a b c d) n = cond (eqb n 2) 2 1
 pub record Within (e : Effect) (g : ℕ) : Type 0 where
   pub few : e .granules ≤ 2
   pub inside : e .first + e .granules ≤ g
-  pub wide : e .first + room (e .change) (e .granules) ≤ g
+  pub wide : room (e .change) (e .granules) ≤ e .granules
   pub some : e .tagged ≡ true → 1 ≤ e .granules

@@ -6,6 +6,7 @@ ghost use lib.ListN.{length};
 ghost use Rattle.machine.specs.Codes.{codeNumber};
 ghost use Rattle.machine.specs.Effects.{Within, bytesAfter, tagsAfter, xAfter};
 ghost use Rattle.machine.specs.Execution.{executed, executionOf};
+ghost use Rattle.machine.specs.Inverses.{inverse};
 ghost use Rattle.machine.specs.Plans.{Carries, JudgedWithin, decodedFits, judgedCode, outcome, planOf};
 ghost use Rattle.machine.specs.Setup.{cursorOk, setupOk, stateOk};
 ghost use Rattle.machine.specs.State.{freshOn, stateOf};
@@ -236,6 +237,31 @@ pub fn apply(x: &mut [u64; 32], e: Effect, bytes: &mut [u8], tags: &mut [u8])
     effects::change_data(bytes, e.first, e.granules, change);
     effects::change_tags(tags, e.first, e.granules, e.tagged, e.tag, e.second);
     register_file::write(x, e.register, e.value);
+}
+
+// The effect that undoes an effect on this state: the old register, status, tag bytes and data.
+// Public because our own crates call it, with an effect whose granules they know to be inside.
+pub fn inverse(x: &[u64; 32], status: Status, bytes: &[u8], tags: &[u8], e: Effect) -> Effect
+    requires { ⌜ Within e (length (now tags)) ⌝ }
+    requires { ⌜ length (now bytes) ≡ 16 * length (now tags) ⌝ }
+    ensures { λ r. ⌜ r ≡ inverse e (now (x .entry)) status (now (bytes .entry)) (now (tags .entry)) ⌝ }
+{
+    let change = e.change;
+    let first = e.first;
+    let granules = e.granules;
+    let some = granules != 0;
+    let old = effects::old_data(bytes, first, granules, change);
+    Effect {
+        register: e.register,
+        value: register_file::x_or_sp(x, e.register),
+        status: status,
+        first: first,
+        granules: granules,
+        tagged: some,
+        tag: effects::old_tag(tags, first, some),
+        second: effects::old_tag(tags, first + 1, granules == 2),
+        change: old,
+    }
 }
 
 // Carries out what was judged.
