@@ -7,7 +7,6 @@ pub mod Outcomes
 pub mod Parts
 pub mod Places
 pub mod Ranges
-pub mod Refusals
 pub mod Setup
 pub mod Statuses
 pub mod StoreEffects

@@ -1,5 +1,5 @@
 -- The rule of the cursor: what it tells, and that a record put in or taken out keeps it. Assumes nothing.
-use Prim.Native.Nat.{ℕ, _+_, _*_, _-_, _≤_, _<_, max}
+use Prim.Native.Nat.{ℕ, _+_, _*_, _-_, _≤_, _<_}
 use mathlib.Core.Bool.{Bool, true, false, cond, _&&_, and-eq-true-iff}
 use mathlib.Core.List.{List}
 use mathlib.Core.Path.{_≡_, refl}
@@ -13,11 +13,7 @@ use Rattle.machine.specs.declared.Cursor.{Cursor}
 use Rattle.machine.specs.Setup.{cursorOk}
 use Rattle.history.specs.History.{History, capacity}
 use Rattle.history.specs.Ring.{advanced, previous, retreated, pushed}
-
--- next and held in their ranges: 0 if there are no slots
-pub record Placed (c : ℕ) (cursor : Cursor) : Type 0 where
-  pub next : cursor .next < max c 1
-  pub held : cursor .held ≤ c
+use Rattle.simulator.specs.Taking.{Placed}
 
 pub placed : (c : ℕ) (cursor : Cursor) → cursorOk c cursor ≡ true → Placed c cursor
 unfolding cursorOk

@@ -1,5 +1,5 @@
 -- What the functions inside answer, for their contracts. No notion of document 01.
-use Prim.Native.Nat.{ℕ}
+use Prim.Native.Nat.{ℕ, _≤_, _<_, max}
 use mathlib.Core.List.{List}
 use mathlib.Core.Path.{_≡_}
 use Rattle.machine.specs.declared.Cursor.{Cursor}
@@ -29,6 +29,11 @@ historyOf words cursor = record { words = words; cursor = cursor }
 abbrev pub gathered : Settings → List ℕ → Status → List ℕ → List ℕ → List ℕ → Cursor → Simulation
 gathered settings x status bytes tags words cursor =
     record { state = stateOf settings x status bytes tags; history = historyOf words cursor }
+
+-- the rule of the cursor in one: next and held in their ranges, and both 0 if there are no slots
+pub record Placed (c : ℕ) (cursor : Cursor) : Type 0 where
+  pub next : cursor .next < max c 1
+  pub held : cursor .held ≤ c
 
 -- what was judged, recorded and applied
 unfoldable pub carriedOut : Judged → Simulation → Out Simulation

@@ -10,12 +10,12 @@ ghost use Rattle.history.specs.Undo.{Storable, entryWith};
 ghost use Rattle.machine.specs.Effects.{Within, applied};
 ghost use Rattle.machine.specs.Inverses.{inverse};
 ghost use Rattle.machine.specs.Plans.{JudgedWithin};
-ghost use Rattle.machine.specs.Setup.{cursorOk, slotsOf};
+ghost use Rattle.machine.specs.Setup.{slotsOf};
 ghost use Rattle.machine.specs.State.{withMemory};
 ghost use Rattle.simulator.specs.Calls.{answered, inOrder, left};
 ghost use Rattle.simulator.specs.Simulation.{simulation, wellFormed};
 ghost use Rattle.simulator.specs.Steps.{runOf, stepBackOf, stepOf};
-ghost use Rattle.simulator.specs.Taking.{Carries, JudgedStorable, Took, gathered, historyOf};
+ghost use Rattle.simulator.specs.Taking.{Carries, JudgedStorable, Placed, Took, gathered, historyOf};
 use machine::Code;
 use machine::Cursor;
 use machine::Effect;
@@ -53,7 +53,7 @@ struct Stop {
 }
 
 // Records what an effect is about to change, if there is a slot for it, and answers the cursor after that.
-fn record(
+fn write_record(
     x: &[u64; 32],
     status: Status,
     cursor: Cursor,
@@ -64,7 +64,7 @@ fn record(
 ) -> Cursor
     requires { ⌜ Within e (length (now tags)) ⌝ }
     requires { ⌜ length (now bytes) ≡ 16 * length (now tags) ⌝ }
-    requires { ⌜ cursorOk (slotsOf (length (now history))) cursor ≡ true ⌝ }
+    requires { ⌜ Placed (slotsOf (length (now history))) cursor ⌝ }
     requires { ⌜ Storable (inverse e (now x) status (now bytes) (now tags)) ⌝ }
     ensures { λ r. ⌜ historyOf (now (history .exit)) r ≡ pushed (wordsOf (entryWith (inverse e (now (x .entry)) status (now (bytes .entry)) (now (tags .entry))))) (historyOf (now (history .entry)) cursor) ⌝ }
 {
@@ -90,14 +90,14 @@ fn carry(
 ) -> Taken
     requires { ⌜ JudgedWithin judged (length (now tags)) ⌝ }
     requires { ⌜ length (now bytes) ≡ 16 * length (now tags) ⌝ }
-    requires { ⌜ cursorOk (slotsOf (length (now history))) cursor ≡ true ⌝ }
+    requires { ⌜ Placed (slotsOf (length (now history))) cursor ⌝ }
     requires { ⌜ JudgedStorable judged (now x) status (now bytes) (now tags) ⌝ }
     ensures { λ r. ⌜ Carries judged r (λ settings. gathered settings (now (x .entry)) status (now (bytes .entry)) (now (tags .entry)) (now (history .entry)) cursor) (λ settings status cursor. gathered settings (now (x .exit)) status (now (bytes .exit)) (now (tags .exit)) (now (history .exit)) cursor) ⌝ }
 {
     match judged {
         Judged::Refused(code) => Taken::Refused(code),
         Judged::Accepted(e) => {
-            let moved = record(&*x, status, cursor, &bytes[..], &tags[..], history, e);
+            let moved = write_record(&*x, status, cursor, &bytes[..], &tags[..], history, e);
             machine::apply(x, e, bytes, tags);
             let after = e.status;
             Taken::Went(after, moved)
