@@ -1,0 +1,260 @@
+-- The record that an accepted word leaves is the inverse of the word's effect, it is well formed, and what it holds put back gives
+-- the old state. Assumes nothing.
+use Prim.Native.Nat.{ℕ, _+_, _*_, _≤_, _<_}
+use mathlib.Core.Bool.{Bool, true, false, cond, _&&_, _||_, false≢true}
+use mathlib.Core.List.{List}
+use mathlib.Core.Path.{_≡_, refl, ap, sym, subst, _∙_}
+use native.Mathlib.Omega.{arith}
+use lib.Dec.{eqb, ltb}
+use lib.ListN.{length, drop, getD}
+use lib.Seq.{length-sets, drop-drop}
+use borrow.Author.Tests.{eqb-true, le-ltb}
+use Rattle.isa.specs.declared.Mode.{Mode}
+use Rattle.isa.specs.declared.Mode.the-variants.{Post, Pre, Offset}
+use Rattle.isa.specs.declared.TwoSourceOp.the-variants.{Subp, Subps, Irg, Gmi}
+use Rattle.isa.specs.declared.TagStoreOp.{TagStoreOp}
+use Rattle.isa.specs.declared.TagStoreOp.the-variants.{Stg, Stzg, St2g, Stz2g}
+use Rattle.isa.specs.declared.Form.{Form}
+use Rattle.isa.specs.declared.Form.the-variants.{AddSub, TwoSource, Ldg, TagStore, Stgp}
+use Rattle.isa.specs.declared.Decoded.{Decoded}
+use Rattle.isa.specs.declared.Decoded.the-variants.{Is}
+use Rattle.isa.specs.declared.Decoded.the-variants.{Undefined as NoForm}
+use Rattle.isa.specs.Decoding.{decodeOf}
+use Rattle.memory.specs.declared.Granule.the-variants.{At}
+use Rattle.memory.specs.declared.Granule.the-variants.{Outside as NoGranule}
+use Rattle.memory.specs.Addresses.{allInside, granuleOf, indexOf, named}
+use Rattle.machine.specs.declared.Status.{Status}
+use Rattle.machine.specs.declared.Change.{Change}
+use Rattle.machine.specs.declared.Change.the-variants.{Keep, Zero, Pair, Words}
+use Rattle.machine.specs.declared.Effect.{Effect}
+use Rattle.machine.specs.declared.Code.the-variants.{SpAlign, Align}
+use Rattle.machine.specs.declared.Judged.{Judged}
+use Rattle.machine.specs.declared.Judged.the-variants.{Refused, Accepted}
+use Rattle.machine.specs.State.{State, Typed}
+use Rattle.machine.specs.Setup.{sound}
+use Rattle.machine.specs.Registers.{xOrSp}
+use Rattle.machine.specs.Codes.{isDone}
+use Rattle.machine.specs.Accesses.{addressOf, spMisaligned, misaligned}
+use Rattle.machine.specs.TagStores.{isPair}
+use Rattle.machine.specs.Effects.{applied, Within}
+use Rattle.machine.specs.Inverses.{savedWords, oldData, inverseOn}
+use Rattle.machine.specs.Words.{Outcome, wordOutcome}
+use Rattle.machine.specs.Plans.{registerEffect, storeEffect, storePlan, writebackTo, zeroing, placedAt, placeOf, accept, formPlan, planOf, planOutcome, decodedFits, IfAccepted, JudgedWithin}
+use Rattle.machine.proofs.Setup.{state-sized, state-status}
+use Rattle.machine.proofs.Within.{plan-within}
+use Rattle.machine.proofs.Judgement.{fits}
+use Rattle.machine.proofs.Outcomes.{plan-outcome}
+use Rattle.history.specs.Records.{Entry, wordsOf, entryIn}
+use Rattle.history.specs.BadRecords.{notZero, valueNotZero, tagsNotZero, dataNotZero, dataOfNone, malformed}
+use Rattle.history.specs.Recording.{writebackTarget, zeroes, entryFor, entryOf, recordOf, restored}
+use Rattle.history.specs.Undo.{entryChanging, entryWith, undoing, Storable}
+use Rattle.history.proofs.RecordedScratch.{Fits, entry-back, gaps-zero, restored-applied, inverse-undoes, plan-register}
+
+-- eight words that are well formed on a state and give another one back
+pub record Restores (r : List ℕ) (after before : State) : Type 0 where
+  pub wide : length r ≡ 8
+  pub well : malformed (length (after .tags)) r ≡ false
+  pub back : restored (entryIn r) after ≡ before
+
+cond-lt : (t : Bool) (a b m : ℕ) → a < m → b < m → cond t a b < m
+cond-lt true a b m h k = h
+cond-lt false a b m h k = k
+
+-- the old data is saved or not
+abbrev Saves : Change → Bool → Type 0
+Saves change saves = (n : ℕ) (part : List ℕ) → oldData change n part ≡ cond saves (savedWords n part) Keep
+
+zeroing-data : (op : TagStoreOp) → Saves (zeroing op) (zeroes op)
+zeroing-data Stg n part = refl
+zeroing-data Stzg n part = refl
+zeroing-data St2g n part = refl
+zeroing-data Stz2g n part = refl
+
+same-target : (mode : Mode) (n : ℕ) → writebackTo mode n ≡ writebackTarget mode n
+same-target Post n = refl
+same-target Pre n = refl
+same-target Offset n = refl
+
+abbrev RegisterInRange : Effect → Type 0
+RegisterInRange e = e .register ≤ 32
+
+-- what is judged: a refusal's code is not DONE, and P holds of the effect of an accepted word
+abbrev Judges : (Effect → Type 0) → Judged → Type 0
+Judges P (Refused code) = isDone code ≡ false
+Judges P (Accepted e) = P e
+
+module _ (s : State) where
+  abbrev x : List ℕ
+  x = s .registers .x
+
+  abbrev status : Status
+  status = s .registers .status
+
+  abbrev g : ℕ
+  g = length (s .tags)
+
+  -- what a record needs to be well formed: the state keeps the rules, and the effect has its register and granules in range
+  record InRange (e : Effect) : Type 0 where
+    ok : sound s ≡ true
+    typed : Typed s
+    register : e .register ≤ 32
+    within : Within e g
+
+  -- an effect's inverse, packed
+  record Packs (e : Effect) (r : List ℕ) : Type 0 where
+    same : wordsOf (entryWith (inverseOn e s)) ≡ r
+    well : InRange e → malformed g r ≡ false
+    undone : InRange e → undoing (entryIn r) ≡ inverseOn e s
+
+  -- the register, the granules of an effect, with their data or not
+  module _ (e : Effect) (saves : Bool) where
+    abbrev entry : Entry
+    entry = entryFor (e .register) (e .granules) (e .first) saves s
+
+    entry-fits : InRange e → Fits entry
+    unfolding entryFor
+    entry-fits h =
+        let (nzcv, rgsr) = state-status (s .settings) status (length (s .bytes)) g (h .ok) in
+        record {
+          register = h .register;
+          granules = h .within .few;
+          saved = cond-lt saves 1 0 2 (omega arith) (omega arith);
+          tag = cond-lt (ltb 0 (e .granules)) (getD (s .tags) (e .first) 0) 0 256 (h .typed .tags (e .first)) (omega arith);
+          second = cond-lt (ltb 1 (e .granules)) (getD (s .tags) (e .first + 1) 0) 0 256 (h .typed .tags (e .first + 1)) (omega arith);
+          nzcv = nzcv;
+          rgsr = rgsr;
+          seed = h .typed .seed;
+        }
+
+    -- with no register its value is zero
+    value-zero : valueNotZero entry ≡ false
+    unfolding entryFor
+    value-zero = go (eqb (e .register) 32) refl
+      where
+        go : (t : Bool) → eqb (e .register) 32 ≡ t → (t && notZero (xOrSp x (e .register))) ≡ false
+        go true p = rw (eqb-true (e .register) 32 p)
+        go false p = refl
+
+    -- places that are not in use hold zero, which leaves the last test
+    abbrev UnusedZero : Type 0
+    UnusedZero = (beyond : Bool) → (tagsNotZero entry || (dataNotZero entry || (dataOfNone entry || beyond))) ≡ beyond
+
+    entry-well : UnusedZero → InRange e → malformed g (wordsOf entry) ≡ false
+    unfolding malformed entryFor
+    entry-well unused h =
+        rw (
+          entry-back entry (entry-fits h),
+          gaps-zero entry (entry-fits h),
+          le-ltb 32 (e .register) (h .register),
+          le-ltb 2 (e .granules) (h .within .few),
+          value-zero,
+          unused (ltb g (e .first + e .granules)),
+        ) (le-ltb g (e .first + e .granules) (h .within .inside))
+
+    entry-packs : entryWith (inverseOn e s) ≡ entry → undoing (entryWith (inverseOn e s)) ≡ inverseOn e s → UnusedZero → Packs e (wordsOf entry)
+    entry-packs p q unused =
+        record { same = ap wordsOf p; well = entry-well unused; undone = λ h. ap undoing (entry-back entry (entry-fits h) ∙ sym p) ∙ q }
+
+  register-packs : (r v : ℕ) (after : Status) → Packs (registerEffect r v after) (wordsOf (entryFor r 0 0 false s))
+  unfolding entryWith undoing entryFor
+  register-packs r v after = entry-packs (registerEffect r v after) false refl refl (λ beyond. refl)
+
+  module _ (mode : Mode) (n amount tag : ℕ) (change : Change) (i : ℕ) where
+    abbrev part : List ℕ
+    part = drop (16 * i) (s .bytes)
+
+    beyond-part : (m : ℕ) → drop m part ≡ drop (16 * i + m) (s .bytes)
+    beyond-part m = drop-drop m (16 * i) (s .bytes)
+
+    store-packs : (pair saves : Bool) → Saves change saves
+        → Packs (storeEffect (s .settings) x status mode n amount pair tag change i) (wordsOf (entryFor (writebackTo mode n) (named pair) i saves s))
+    unfolding entryWith undoing entryFor
+    store-packs true true old =
+        entry-packs _ true (rw (old 2 part, beyond-part 8, beyond-part 16, beyond-part 24)) (rw (old 2 part)) (λ beyond. refl)
+    store-packs true false old = entry-packs _ false (rw (old 2 part)) (rw (old 2 part)) (λ beyond. refl)
+    store-packs false true old = entry-packs _ true (rw (old 1 part, beyond-part 8)) (rw (old 1 part)) (λ beyond. refl)
+    store-packs false false old = entry-packs _ false (rw (old 1 part)) (rw (old 1 part)) (λ beyond. refl)
+
+  access : (P : Effect → Type 0) (n from address : ℕ) (pair : Bool) (e : ℕ → Effect) → P (e (indexOf (s .settings .base) address))
+      → Judges P (accept (placeOf (s .settings) g n from address pair) e)
+  unfolding placeOf granuleOf
+  access P n from address pair e k = go (spMisaligned n from) refl (misaligned address) refl (allInside (s .settings .base) g (named pair) address) refl
+    where
+      go : (t : Bool) → spMisaligned n from ≡ t → (u : Bool) → misaligned address ≡ u → (v : Bool) → allInside (s .settings .base) g (named pair) address ≡ v
+          → Judges P (accept (placeOf (s .settings) g n from address pair) e)
+      go true p u q v r = rw p refl
+      go false p true q v r = rw (p, q) refl
+      go false p false q true r = rw (p, q, r) k
+      go false p false q false r = rw (p, q, r) refl
+
+  stores : (mode : Mode) (n amount : ℕ) (pair : Bool) (tag : ℕ) (change : Change) (saves : Bool) → Saves change saves
+      → Judges (λ e. Packs e (wordsOf (entryFor (writebackTarget mode n) (named pair) (indexOf (s .settings .base) (addressOf mode (xOrSp x n) amount)) saves s)))
+      (storePlan (s .settings) x status g mode n amount pair tag change)
+  stores mode n amount pair tag change saves p =
+      rw (← same-target mode n) (access _ n (xOrSp x n) (addressOf mode (xOrSp x n) amount) pair _ (store-packs mode n amount tag change _ pair saves p))
+
+  form-packs : (f : Form) → Judges (λ e. Packs e (wordsOf (entryOf f s))) (formPlan (s .settings) x status (s .tags) f)
+  form-packs (AddSub op d n amount offset) = register-packs d _ _
+  form-packs (TwoSource Subp d n m) = register-packs _ _ _
+  form-packs (TwoSource Subps d n m) = register-packs _ _ _
+  form-packs (TwoSource Irg d n m) = register-packs _ _ _
+  form-packs (TwoSource Gmi d n m) = register-packs _ _ _
+  form-packs (Ldg t n amount) = access _ n _ _ false _ (register-packs _ _ _)
+  form-packs (TagStore op mode t n amount) = stores mode n amount (isPair op) _ (zeroing op) (zeroes op) (zeroing-data op)
+  form-packs (Stgp mode t t2 n amount) = stores mode n amount false _ _ true (λ n part. refl)
+
+  plan-packs : (decoded : Decoded) → Judges (λ e. Packs e (recordOf decoded s)) (planOf (s .settings) x status (s .tags) decoded)
+  unfolding planOf recordOf
+  plan-packs (Is f) = form-packs f
+  plan-packs NoForm = refl
+
+  module _ (decoded : Decoded) where
+    abbrev plan : Judged
+    plan = planOf (s .settings) x status (s .tags) decoded
+
+    within-plan : sound s ≡ true → JudgedWithin plan g
+    within-plan ok =
+        plan-within (s .settings) x status (s .tags) decoded
+        (rw (state-sized (s .settings) status (length (s .bytes)) g ok .sixteen) at ok)
+
+    registers-plan : decodedFits decoded ≡ true → IfAccepted RegisterInRange plan
+    registers-plan = plan-register (s .settings) x status (s .tags) decoded
+
+  restores : (r : List ℕ) (j : Judged) (o : Outcome) → planOutcome j s ≡ o → isDone (o .code) ≡ true → sound s ≡ true → Typed s
+      → Judges (λ e. Packs e r) j → JudgedWithin j g → IfAccepted RegisterInRange j → Restores r (o .state) s
+  unfolding planOutcome wordsOf
+  restores r (Refused code) o p done ok typed k within register =
+      absurd (false≢true (sym k ∙ ap (λ (o : Outcome). isDone (o .code)) p ∙ done))
+  restores r (Accepted e) o p done ok typed k within register =
+      let h : InRange e = record { ok = ok; typed = typed; register = register; within = within } in
+      rw (← p)
+      (record {
+        wide = rw (← k .same);
+        well = rw length-sets (k .well h);
+        back =
+            restored-applied (entryIn r) (applied e s) ∙ ap (λ (undo : Effect). applied undo (applied e s)) (k .undone h)
+            ∙ inverse-undoes e s within (state-sized (s .settings) status (length (s .bytes)) g ok .sixteen) (typed .bytes);
+      })
+
+pub recorded : (s : State) (decoded : Decoded) (e : Effect)
+    → planOf (s .settings) (s .registers .x) (s .registers .status) (s .tags) decoded ≡ Accepted e
+    → wordsOf (entryWith (inverseOn e s)) ≡ recordOf decoded s
+recorded s decoded e p = subst (Judges (λ e. Packs s e (recordOf decoded s))) p (plan-packs s decoded) .same
+
+pub storable : (s : State) (decoded : Decoded) (e : Effect) → sound s ≡ true → decodedFits decoded ≡ true
+    → planOf (s .settings) (s .registers .x) (s .registers .status) (s .tags) decoded ≡ Accepted e → Storable (inverseOn e s)
+storable s decoded e ok fit p =
+    let (nzcv, rgsr) = state-status (s .settings) (s .registers .status) (length (s .bytes)) (length (s .tags)) ok in
+    record {
+      register = subst (IfAccepted RegisterInRange) p (registers-plan s decoded fit);
+      granules = subst (λ (j : Judged). JudgedWithin j (length (s .tags))) p (within-plan s decoded ok) .few;
+      nzcv = nzcv;
+      rgsr = rgsr;
+    }
+
+pub word-undone : (w : ℕ) (s : State) → sound s ≡ true → Typed s → isDone (wordOutcome true w s .code) ≡ true
+    → Restores (recordOf (decodeOf w) s) (wordOutcome true w s .state) s
+unfolding wordOutcome
+word-undone w s ok typed done =
+    restores s _ (plan s (decodeOf w)) _ (plan-outcome s (decodeOf w) ok) done ok typed (plan-packs s (decodeOf w))
+    (within-plan s (decodeOf w) ok) (registers-plan s (decodeOf w) (fits w))
