@@ -20,14 +20,11 @@ use Rattle.isa.specs.declared.Decoded.{Decoded}
 use Rattle.isa.specs.declared.Decoded.the-variants.{Is}
 use Rattle.isa.specs.declared.Decoded.the-variants.{Undefined as NoForm}
 use Rattle.isa.specs.Decoding.{decodeOf}
-use Rattle.memory.specs.declared.Granule.the-variants.{At}
-use Rattle.memory.specs.declared.Granule.the-variants.{Outside as NoGranule}
 use Rattle.memory.specs.Addresses.{allInside, granuleOf, indexOf, named}
 use Rattle.machine.specs.declared.Status.{Status}
 use Rattle.machine.specs.declared.Change.{Change}
-use Rattle.machine.specs.declared.Change.the-variants.{Keep, Zero, Pair, Words}
+use Rattle.machine.specs.declared.Change.the-variants.{Keep}
 use Rattle.machine.specs.declared.Effect.{Effect}
-use Rattle.machine.specs.declared.Code.the-variants.{SpAlign, Align}
 use Rattle.machine.specs.declared.Judged.{Judged}
 use Rattle.machine.specs.declared.Judged.the-variants.{Refused, Accepted}
 use Rattle.machine.specs.State.{State, Typed}
@@ -39,7 +36,7 @@ use Rattle.machine.specs.TagStores.{isPair}
 use Rattle.machine.specs.Effects.{applied, Within}
 use Rattle.machine.specs.Inverses.{savedWords, oldData, inverseOn}
 use Rattle.machine.specs.Words.{Outcome, wordOutcome}
-use Rattle.machine.specs.Plans.{registerEffect, storeEffect, storePlan, writebackTo, zeroing, placedAt, placeOf, accept, formPlan, planOf, planOutcome, decodedFits, IfAccepted, JudgedWithin}
+use Rattle.machine.specs.Plans.{registerEffect, storeEffect, storePlan, writebackTo, zeroing, placeOf, accept, formPlan, planOf, planOutcome, decodedFits, IfAccepted, JudgedWithin}
 use Rattle.machine.proofs.Setup.{state-sized, state-status}
 use Rattle.machine.proofs.Within.{plan-within}
 use Rattle.machine.proofs.Judgement.{fits}
@@ -47,7 +44,7 @@ use Rattle.machine.proofs.Outcomes.{plan-outcome}
 use Rattle.history.specs.Records.{Entry, wordsOf, entryIn}
 use Rattle.history.specs.BadRecords.{notZero, valueNotZero, tagsNotZero, dataNotZero, dataOfNone, malformed}
 use Rattle.history.specs.Recording.{writebackTarget, zeroes, entryFor, entryOf, recordOf, restored}
-use Rattle.history.specs.Undo.{entryChanging, entryWith, undoing, Storable}
+use Rattle.history.specs.Undo.{entryWith, undoing, Storable}
 use Rattle.history.proofs.RecordedScratch.{Fits, entry-back, gaps-zero, restored-applied, inverse-undoes, plan-register}
 
 -- eight words that are well formed on a state and give another one back
@@ -92,6 +89,9 @@ module _ (s : State) where
 
   abbrev g : ℕ
   g = length (s .tags)
+
+  abbrev address : Mode → ℕ → ℕ → ℕ
+  address mode n amount = addressOf mode (xOrSp x n) amount
 
   -- what a record needs to be well formed: the state keeps the rules, and the effect has its register and granules in range
   record InRange (e : Effect) : Type 0 where
@@ -175,23 +175,25 @@ module _ (s : State) where
     store-packs false true old = entry-packs _ true (rw (old 1 part, beyond-part 8)) (rw (old 1 part)) (λ beyond. refl)
     store-packs false false old = entry-packs _ false (rw (old 1 part)) (rw (old 1 part)) (λ beyond. refl)
 
-  access : (P : Effect → Type 0) (n from address : ℕ) (pair : Bool) (e : ℕ → Effect) → P (e (indexOf (s .settings .base) address))
-      → Judges P (accept (placeOf (s .settings) g n from address pair) e)
+  -- an access is refused, or has its effect from the granule at its address on
+  access : (P : Effect → Type 0) (n from at : ℕ) (pair : Bool) (e : ℕ → Effect) → P (e (indexOf (s .settings .base) at))
+      → Judges P (accept (placeOf (s .settings) g n from at pair) e)
   unfolding placeOf granuleOf
-  access P n from address pair e k = go (spMisaligned n from) refl (misaligned address) refl (allInside (s .settings .base) g (named pair) address) refl
+  access P n from at pair e k =
+      go (spMisaligned n from) (misaligned at) (allInside (s .settings .base) g (named pair) at) refl refl refl
     where
-      go : (t : Bool) → spMisaligned n from ≡ t → (u : Bool) → misaligned address ≡ u → (v : Bool) → allInside (s .settings .base) g (named pair) address ≡ v
-          → Judges P (accept (placeOf (s .settings) g n from address pair) e)
-      go true p u q v r = rw p refl
-      go false p true q v r = rw (p, q) refl
-      go false p false q true r = rw (p, q, r) k
-      go false p false q false r = rw (p, q, r) refl
+      go : (t u v : Bool) → spMisaligned n from ≡ t → misaligned at ≡ u → allInside (s .settings .base) g (named pair) at ≡ v
+          → Judges P (accept (placeOf (s .settings) g n from at pair) e)
+      go true u v p q r = rw p refl
+      go false true v p q r = rw (p, q) refl
+      go false false true p q r = rw (p, q, r) k
+      go false false false p q r = rw (p, q, r) refl
 
   stores : (mode : Mode) (n amount : ℕ) (pair : Bool) (tag : ℕ) (change : Change) (saves : Bool) → Saves change saves
-      → Judges (λ e. Packs e (wordsOf (entryFor (writebackTarget mode n) (named pair) (indexOf (s .settings .base) (addressOf mode (xOrSp x n) amount)) saves s)))
+      → Judges (λ e. Packs e (wordsOf (entryFor (writebackTarget mode n) (named pair) (indexOf (s .settings .base) (address mode n amount)) saves s)))
       (storePlan (s .settings) x status g mode n amount pair tag change)
   stores mode n amount pair tag change saves p =
-      rw (← same-target mode n) (access _ n (xOrSp x n) (addressOf mode (xOrSp x n) amount) pair _ (store-packs mode n amount tag change _ pair saves p))
+      rw (← same-target mode n) (access _ n _ (address mode n amount) pair _ (store-packs mode n amount tag change _ pair saves p))
 
   form-packs : (f : Form) → Judges (λ e. Packs e (wordsOf (entryOf f s))) (formPlan (s .settings) x status (s .tags) f)
   form-packs (AddSub op d n amount offset) = register-packs d _ _
