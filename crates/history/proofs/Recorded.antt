@@ -45,7 +45,8 @@ use Rattle.history.specs.Records.{Entry, wordsOf, entryIn}
 use Rattle.history.specs.BadRecords.{notZero, valueNotZero, tagsNotZero, dataNotZero, dataOfNone, malformed}
 use Rattle.history.specs.Recording.{writebackTarget, zeroes, entryFor, entryOf, recordOf, restored}
 use Rattle.history.specs.Undo.{entryWith, undoing, Storable}
-use Rattle.history.proofs.RecordedScratch.{Fits, entry-back, gaps-zero, restored-applied, inverse-undoes, plan-register}
+use Rattle.history.proofs.Packing.{Fits, entry-back, gaps-zero}
+use Rattle.history.proofs.RecordedScratch.{restored-applied, inverse-undoes, plan-register}
 
 -- eight words that are well formed on a state and give another one back
 pub record Restores (r : List ℕ) (after before : State) : Type 0 where

@@ -12,26 +12,9 @@ use Rattle.machine.specs.State.{State}
 use Rattle.machine.specs.Effects.{applied, Within}
 use Rattle.machine.specs.Inverses.{inverseOn}
 use Rattle.machine.specs.Plans.{planOf, decodedFits, IfAccepted}
-use Rattle.history.specs.Records.{Entry, wordsOf, entryIn}
-use Rattle.history.specs.BadRecords.{gapNotZero}
+use Rattle.history.specs.Records.{Entry}
 use Rattle.history.specs.Recording.{restored}
 use Rattle.history.specs.Undo.{undoing}
-
-pub record Fits (e : Entry) : Type 0 where
-  pub register : e .register ≤ 32
-  pub granules : e .granules ≤ 2
-  pub saved : e .saved < 2
-  pub tag : e .tag < 256
-  pub second : e .second < 256
-  pub nzcv : e .nzcv ≤ 15
-  pub rgsr : e .rgsr ≤ 15
-  pub seed : e .seed < 65536
-
-pub entry-back : (e : Entry) → Fits e → entryIn (wordsOf e) ≡ e
-entry-back e h = ?
-
-pub gaps-zero : (e : Entry) → Fits e → gapNotZero (wordsOf e) ≡ false
-gaps-zero e h = ?
 
 pub restored-applied : (e : Entry) (s : State) → restored e s ≡ applied (undoing e) s
 restored-applied e s = ?
