@@ -1,4 +1,6 @@
 -- Laws of the definitions, for the proofs here and in the crates above.
 pub mod Packing
+pub mod Rules
+pub mod Restored
 mod RecordedScratch
 pub mod Recorded

@@ -36,7 +36,7 @@ use Rattle.machine.specs.TagStores.{isPair}
 use Rattle.machine.specs.Effects.{applied, Within}
 use Rattle.machine.specs.Inverses.{savedWords, oldData, inverseOn}
 use Rattle.machine.specs.Words.{Outcome, wordOutcome}
-use Rattle.machine.specs.Plans.{registerEffect, storeEffect, storePlan, writebackTo, zeroing, placeOf, accept, formPlan, planOf, planOutcome, decodedFits, IfAccepted, JudgedWithin}
+use Rattle.machine.specs.Plans.{registerEffect, storeEffect, storePlan, writebackTo, zeroing, placeOf, accept, formPlan, planOf, planOutcome, decodedFits, JudgedWithin}
 use Rattle.machine.proofs.Setup.{state-sized, state-status}
 use Rattle.machine.proofs.Within.{plan-within}
 use Rattle.machine.proofs.Judgement.{fits}
@@ -46,7 +46,8 @@ use Rattle.history.specs.BadRecords.{notZero, valueNotZero, tagsNotZero,
 use Rattle.history.specs.Recording.{writebackTarget, zeroes, entryFor, entryOf, recordOf, restored}
 use Rattle.history.specs.Undo.{entryWith, undoing, Storable}
 use Rattle.history.proofs.Packing.{Fits, entry-back, gaps-zero}
-use Rattle.history.proofs.RecordedScratch.{restored-applied, inverse-undoes, plan-register}
+use Rattle.history.proofs.Restored.{restored-applied}
+use Rattle.history.proofs.RecordedScratch.{inverse-undoes, plan-register}
 
 -- eight words that are well formed on a state and give another one back
 pub record Restores (r : List ℕ) (after before : State) : Type 0 where
@@ -73,9 +74,6 @@ same-target Post n = refl
 same-target Pre n = refl
 same-target Offset n = refl
 
-abbrev RegisterInRange : Effect → Type 0
-RegisterInRange e = e .register ≤ 32
-
 -- what is judged: a refusal's code is not DONE, and P holds of the effect of an accepted word
 abbrev Judges : (Effect → Type 0) → Judged → Type 0
 Judges P (Refused code) = isDone code ≡ false
@@ -97,34 +95,33 @@ module _ (s : State) where
   -- what a record needs to be well formed: the state keeps the rules, and the effect has its register and granules in range
   record InRange (e : Effect) : Type 0 where
     ok : sound s ≡ true
-    typed : Typed s
     register : e .register ≤ 32
     within : Within e g
 
   -- an effect's inverse, packed
   record Packs (e : Effect) (r : List ℕ) : Type 0 where
     same : wordsOf (entryWith (inverseOn e s)) ≡ r
-    well : InRange e → malformed g r ≡ false
-    undone : InRange e → undoing (entryIn r) ≡ inverseOn e s
+    well : Typed s → InRange e → malformed g r ≡ false
+    undone : Typed s → InRange e → undoing (entryIn r) ≡ inverseOn e s
 
   -- the register, the granules of an effect, with their data or not
   module _ (e : Effect) (saves : Bool) where
     abbrev entry : Entry
     entry = entryFor (e .register) (e .granules) (e .first) saves s
 
-    entry-fits : InRange e → Fits entry
+    entry-fits : Typed s → InRange e → Fits entry
     unfolding entryFor
-    entry-fits h =
+    entry-fits typed h =
         let (nzcv, rgsr) = state-status (s .settings) status (length (s .bytes)) g (h .ok) in
         record {
           register = h .register;
           granules = h .within .few;
           saved = cond-lt saves 1 0 2 (omega arith) (omega arith);
-          tag = cond-lt (ltb 0 (e .granules)) (getD (s .tags) (e .first) 0) 0 256 (h .typed .tags (e .first)) (omega arith);
-          second = cond-lt (ltb 1 (e .granules)) (getD (s .tags) (e .first + 1) 0) 0 256 (h .typed .tags (e .first + 1)) (omega arith);
+          tag = cond-lt (ltb 0 (e .granules)) (getD (s .tags) (e .first) 0) 0 256 (typed .tags (e .first)) (omega arith);
+          second = cond-lt (ltb 1 (e .granules)) (getD (s .tags) (e .first + 1) 0) 0 256 (typed .tags (e .first + 1)) (omega arith);
           nzcv = nzcv;
           rgsr = rgsr;
-          seed = h .typed .seed;
+          seed = typed .seed;
         }
 
     -- with no register its value is zero
@@ -140,12 +137,12 @@ module _ (s : State) where
     abbrev UnusedZero : Type 0
     UnusedZero = (beyond : Bool) → (tagsNotZero entry || (dataNotZero entry || (dataOfNone entry || beyond))) ≡ beyond
 
-    entry-well : UnusedZero → InRange e → malformed g (wordsOf entry) ≡ false
+    entry-well : UnusedZero → Typed s → InRange e → malformed g (wordsOf entry) ≡ false
     unfolding malformed entryFor
-    entry-well unused h =
+    entry-well unused typed h =
         rw (
-          entry-back entry (entry-fits h),
-          gaps-zero entry (entry-fits h),
+          entry-back entry (entry-fits typed h),
+          gaps-zero entry (entry-fits typed h),
           le-ltb 32 (e .register) (h .register),
           le-ltb 2 (e .granules) (h .within .few),
           value-zero,
@@ -154,7 +151,7 @@ module _ (s : State) where
 
     entry-packs : entryWith (inverseOn e s) ≡ entry → undoing (entryWith (inverseOn e s)) ≡ inverseOn e s → UnusedZero → Packs e (wordsOf entry)
     entry-packs p q unused =
-        record { same = ap wordsOf p; well = entry-well unused; undone = λ h. ap undoing (entry-back entry (entry-fits h) ∙ sym p) ∙ q }
+        record { same = ap wordsOf p; well = entry-well unused; undone = λ typed h. ap undoing (entry-back entry (entry-fits typed h) ∙ sym p) ∙ q }
 
   register-packs : (r v : ℕ) (after : Status) → Packs (registerEffect r v after) (wordsOf (entryFor r 0 0 false s))
   unfolding entryWith undoing entryFor
@@ -206,58 +203,68 @@ module _ (s : State) where
   form-packs (TagStore op mode t n amount) = stores mode n amount (isPair op) _ (zeroing op) (zeroes op) (zeroing-data op)
   form-packs (Stgp mode t t2 n amount) = stores mode n amount false _ _ true (λ n part. refl)
 
-  plan-packs : (decoded : Decoded) → Judges (λ e. Packs e (recordOf decoded s)) (planOf (s .settings) x status (s .tags) decoded)
+  abbrev plan : Decoded → Judged
+  plan decoded = planOf (s .settings) x status (s .tags) decoded
+
+  plan-packs : (decoded : Decoded) → Judges (λ e. Packs e (recordOf decoded s)) (plan decoded)
   unfolding planOf recordOf
   plan-packs (Is f) = form-packs f
   plan-packs NoForm = refl
 
-  module _ (decoded : Decoded) where
-    abbrev plan : Judged
-    plan = planOf (s .settings) x status (s .tags) decoded
+  judged : (decoded : Decoded) (j : Judged) → plan decoded ≡ j → Judges (λ e. Packs e (recordOf decoded s)) j
+  judged decoded j p = subst (Judges (λ e. Packs e (recordOf decoded s))) p (plan-packs decoded)
 
-    within-plan : sound s ≡ true → JudgedWithin plan g
-    within-plan ok =
-        plan-within (s .settings) x status (s .tags) decoded
-        (rw (state-sized (s .settings) status (length (s .bytes)) g ok .sixteen) at ok)
+module _ (s : State) (decoded : Decoded) (e : Effect) where
+  in-range : sound s ≡ true → decodedFits decoded ≡ true → plan s decoded ≡ Accepted e → InRange s e
+  in-range ok fit p =
+      let sizes = state-sized (s .settings) (s .registers .status) (length (s .bytes)) (length (s .tags)) ok in
+      record {
+        ok = ok;
+        register = plan-register s decoded e p fit;
+        within =
+            subst (λ (j : Judged). JudgedWithin j (length (s .tags))) p
+            (plan-within (s .settings) (s .registers .x) (s .registers .status) (s .tags) decoded (rw (sizes .sixteen) at ok));
+      }
 
-    registers-plan : decodedFits decoded ≡ true → IfAccepted RegisterInRange plan
-    registers-plan = plan-register (s .settings) x status (s .tags) decoded
+  pub recorded : planOf (s .settings) (s .registers .x) (s .registers .status) (s .tags) decoded ≡ Accepted e
+      → wordsOf (entryWith (inverseOn e s)) ≡ recordOf decoded s
+  recorded p = judged s decoded (Accepted e) p .same
 
-  restores : (r : List ℕ) (j : Judged) (o : Outcome) → planOutcome j s ≡ o → isDone (o .code) ≡ true → sound s ≡ true → Typed s
-      → Judges (λ e. Packs e r) j → JudgedWithin j g → IfAccepted RegisterInRange j → Restores r (o .state) s
-  unfolding planOutcome wordsOf
-  restores r (Refused code) o p done ok typed k within register =
-      absurd (false≢true (sym k ∙ ap (λ (o : Outcome). isDone (o .code)) p ∙ done))
-  restores r (Accepted e) o p done ok typed k within register =
-      let h : InRange e = record { ok = ok; typed = typed; register = register; within = within } in
-      rw (← p)
-      (record {
+  pub storable : sound s ≡ true → decodedFits decoded ≡ true
+      → planOf (s .settings) (s .registers .x) (s .registers .status) (s .tags) decoded ≡ Accepted e → Storable (inverseOn e s)
+  storable ok fit p =
+      let h = in-range ok fit p in
+      let (nzcv, rgsr) = state-status (s .settings) (s .registers .status) (length (s .bytes)) (length (s .tags)) ok in
+      record { register = h .register; granules = h .within .few; nzcv = nzcv; rgsr = rgsr }
+
+  undone : sound s ≡ true → Typed s → decodedFits decoded ≡ true → plan s decoded ≡ Accepted e → Restores (recordOf decoded s) (applied e s) s
+  unfolding wordsOf
+  undone ok typed fit p =
+      let h = in-range ok fit p in
+      let k = judged s decoded (Accepted e) p in
+      record {
         wide = rw (← k .same);
-        well = rw length-sets (k .well h);
+        well = rw length-sets (k .well typed h);
         back =
-            restored-applied (entryIn r) (applied e s) ∙ ap (λ (undo : Effect). applied undo (applied e s)) (k .undone h)
-            ∙ inverse-undoes e s within (state-sized (s .settings) status (length (s .bytes)) g ok .sixteen) (typed .bytes);
-      })
-
-pub recorded : (s : State) (decoded : Decoded) (e : Effect)
-    → planOf (s .settings) (s .registers .x) (s .registers .status) (s .tags) decoded ≡ Accepted e
-    → wordsOf (entryWith (inverseOn e s)) ≡ recordOf decoded s
-recorded s decoded e p = subst (Judges (λ e. Packs s e (recordOf decoded s))) p (plan-packs s decoded) .same
-
-pub storable : (s : State) (decoded : Decoded) (e : Effect) → sound s ≡ true → decodedFits decoded ≡ true
-    → planOf (s .settings) (s .registers .x) (s .registers .status) (s .tags) decoded ≡ Accepted e → Storable (inverseOn e s)
-storable s decoded e ok fit p =
-    let (nzcv, rgsr) = state-status (s .settings) (s .registers .status) (length (s .bytes)) (length (s .tags)) ok in
-    record {
-      register = subst (IfAccepted RegisterInRange) p (registers-plan s decoded fit);
-      granules = subst (λ (j : Judged). JudgedWithin j (length (s .tags))) p (within-plan s decoded ok) .few;
-      nzcv = nzcv;
-      rgsr = rgsr;
-    }
+            restored-applied (entryIn (recordOf decoded s)) (applied e s)
+            ∙ ap (λ (undo : Effect). applied undo (applied e s)) (k .undone typed h)
+            ∙ inverse-undoes e s (h .within) (state-sized (s .settings) (s .registers .status) (length (s .bytes)) (length (s .tags)) ok .sixteen)
+            (typed .bytes);
+      }
 
 pub word-undone : (w : ℕ) (s : State) → sound s ≡ true → Typed s → isDone (wordOutcome true w s .code) ≡ true
     → Restores (recordOf (decodeOf w) s) (wordOutcome true w s .state) s
-unfolding wordOutcome
-word-undone w s ok typed done =
-    restores s _ (plan s (decodeOf w)) _ (plan-outcome s (decodeOf w) ok) done ok typed (plan-packs s (decodeOf w))
-    (within-plan s (decodeOf w) ok) (registers-plan s (decodeOf w) (fits w))
+unfolding wordOutcome planOutcome
+word-undone w s ok typed done = go (plan s (decodeOf w)) refl
+  where
+    outcome : (j : Judged) → plan s (decodeOf w) ≡ j → planOutcome j s ≡ wordOutcome true w s
+    outcome j p = subst (λ (j : Judged). planOutcome j s ≡ wordOutcome true w s) p (plan-outcome s (decodeOf w) ok)
+
+    go : (j : Judged) → plan s (decodeOf w) ≡ j → Restores (recordOf (decodeOf w) s) (wordOutcome true w s .state) s
+    go (Refused code) p =
+        absurd
+        (false≢true
+        (sym (judged s (decodeOf w) (Refused code) p) ∙ ap (λ (o : Outcome). isDone (o .code)) (outcome (Refused code) p) ∙ done))
+    go (Accepted e) p =
+        subst (λ (o : Outcome). Restores (recordOf (decodeOf w) s) (o .state) s) (outcome (Accepted e) p)
+        (undone s (decodeOf w) e ok typed (fits w) p)
