@@ -144,15 +144,16 @@ unfoldable pub planOutcome : Judged → State → Outcome
 planOutcome (Refused code) s = record { code = code; state = s }
 planOutcome (Accepted e) s = record { code = Done; state = applied e s }
 
--- what the functions ask: fields in range, and an effect's granules inside
-
+-- what `judge` asks: fields in range
 abbrev pub decodedFits : Decoded → Bool
 decodedFits (Is f) = fieldsFit f
 decodedFits NoForm = true
 
+-- what holds of the effect, if there is one
 abbrev pub IfAccepted : (Effect → Type 0) → Judged → Type 0
 IfAccepted P (Refused code) = Unit {0}
 IfAccepted P (Accepted e) = P e
 
+-- its granules are inside
 abbrev pub JudgedWithin : Judged → ℕ → Type 0
 JudgedWithin judged g = IfAccepted (λ e. Within e g) judged
