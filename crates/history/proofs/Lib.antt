@@ -2,3 +2,4 @@
 pub mod Packing
 pub mod Rules
 pub mod Restored
+pub mod Exact
