@@ -2,5 +2,5 @@
 pub mod Packing
 pub mod Rules
 pub mod Restored
-mod RecordedScratch
+pub mod Exact
 pub mod Recorded

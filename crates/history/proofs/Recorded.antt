@@ -39,6 +39,8 @@ use Rattle.machine.specs.Words.{Outcome, wordOutcome}
 use Rattle.machine.specs.Plans.{registerEffect, storeEffect, storePlan, writebackTo, zeroing, placeOf, accept, formPlan, planOf, planOutcome, decodedFits, JudgedWithin}
 use Rattle.machine.proofs.Setup.{state-sized, state-status}
 use Rattle.machine.proofs.Within.{plan-within}
+use Rattle.machine.proofs.Ranges.{plan-register}
+use Rattle.machine.proofs.Undone.{inverse-undoes}
 use Rattle.machine.proofs.Judgement.{fits}
 use Rattle.machine.proofs.Outcomes.{plan-outcome}
 use Rattle.history.specs.Records.{Entry, wordsOf, entryIn}
@@ -47,7 +49,6 @@ use Rattle.history.specs.Recording.{writebackTarget, zeroes, entryFor, e
 use Rattle.history.specs.Undo.{entryWith, undoing, Storable}
 use Rattle.history.proofs.Packing.{Fits, entry-back, gaps-zero}
 use Rattle.history.proofs.Restored.{restored-applied}
-use Rattle.history.proofs.RecordedScratch.{inverse-undoes, plan-register}
 
 -- eight words that are well formed on a state and give another one back
 pub record Restores (r : List ℕ) (after before : State) : Type 0 where
