@@ -10,5 +10,7 @@ pub mod Ranges
 pub mod Setup
 pub mod Statuses
 pub mod StoreEffects
+pub mod TypedStates
+pub mod Undone
 pub mod WellFormed
 pub mod Within
