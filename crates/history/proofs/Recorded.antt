@@ -22,6 +22,7 @@ use Rattle.isa.specs.declared.Decoded.the-variants.{Undefined as NoForm}
 use Rattle.isa.specs.Decoding.{decodeOf}
 use Rattle.memory.specs.Addresses.{allInside, granuleOf, indexOf, named}
 use Rattle.machine.specs.declared.Status.{Status}
+use Rattle.machine.specs.declared.Code.{Code}
 use Rattle.machine.specs.declared.Change.{Change}
 use Rattle.machine.specs.declared.Change.the-variants.{Keep}
 use Rattle.machine.specs.declared.Effect.{Effect}
@@ -252,6 +253,11 @@ module _ (s : State) (decoded : Decoded) (e : Effect) where
             ∙ inverse-undoes e s (h .within) (state-sized (s .settings) (s .registers .status) (length (s .bytes)) (length (s .tags)) ok .sixteen)
             (typed .bytes);
       }
+
+-- no word is refused with DONE
+pub plan-refusal : (s : State) (decoded : Decoded) (code : Code)
+    → planOf (s .settings) (s .registers .x) (s .registers .status) (s .tags) decoded ≡ Refused code → isDone code ≡ false
+plan-refusal s decoded code p = judged s decoded (Refused code) p
 
 pub word-undone : (w : ℕ) (s : State) → sound s ≡ true → Typed s → isDone (wordOutcome true w s .code) ≡ true
     → Restores (recordOf (decodeOf w) s) (wordOutcome true w s .state) s

@@ -26,20 +26,14 @@ use Rattle.history.specs.Records.{wordsOf}
 use Rattle.history.specs.Recording.{recordOf}
 use Rattle.history.specs.Ring.{pushed}
 use Rattle.history.specs.Undo.{entryWith}
+use Rattle.history.proofs.Recorded.{plan-refusal, recorded}
 use Rattle.simulator.specs.Calls.{Out, refused, done, whenDone}
 use Rattle.simulator.specs.Simulation.{Simulation, machineOf, wellFormed}
 use Rattle.simulator.specs.Steps.{stepOf}
 use Rattle.simulator.specs.Taking.{carriedOut}
-use Rattle.machine.proofs.Refusals.{plan-refusal}
 
 abbrev pub plan : State → ℕ → Judged
 plan s w = planOf (s .settings) (s .registers .x) (s .registers .status) (s .tags) (decodeOf w)
-
--- TO COME from history/proofs/Recorded
-recorded : (s : State) (decoded : Decoded) (e : Effect) → sound s ≡ true → decodedFits decoded ≡ true
-    → planOf (s .settings) (s .registers .x) (s .registers .status) (s .tags) decoded ≡ Accepted e
-    → wordsOf (entryWith (inverseOn e s)) ≡ recordOf decoded s
-recorded s d e h f p = ?
 
 well-sound : (s : Simulation) → wellFormed s ≡ true → sound (s .state) ≡ true
 unfolding wellFormed
@@ -56,7 +50,7 @@ plan-step s w h = go (plan (s .state) w) refl
     go : (j : Judged) → plan (s .state) w ≡ j → carriedOut j s ≡ stepOf s w
     go (Refused code) e =
         let o : record { code = code; state = s .state } ≡ wordOutcome true w (s .state) = outcome (s .state) w (Refused code) (well-sound s h) e in
-        rw (h, ← o, plan-refusal (s .state .settings) (s .state .registers .x) (s .state .registers .status) (s .state .tags) (decodeOf w) code e)
+        rw (h, ← o, plan-refusal (s .state) (decodeOf w) code e)
     go (Accepted f) e =
         let o : record { code = Done; state = applied f (s .state) } ≡ wordOutcome true w (s .state) = outcome (s .state) w (Accepted f) (well-sound s h) e in
-        rw (h, ← o, recorded (s .state) (decodeOf w) f (well-sound s h) (fits w) e)
+        rw (h, ← o, recorded (s .state) (decodeOf w) f e)

@@ -1,53 +1,48 @@
+-- `simulator::write_record` meets its contract. Assumes nothing.
 use borrow.Author.Needs.{needs}
+use Prim.Native.Nat.{_*_}
+use mathlib.Core.List.{List}
+use native.Mathlib.Omega.{arith}
+use lib.ListN.{length-take, length-drop}
+use Rattle.memory.proofs.Lists.{back-part}
+use Rattle.history.specs.Ring.{pushed}
 use Rattle.simulator.proofs.write_record.Statement.{statement}
 use Rattle.simulator.proofs.write_record.Tie as tie
-use Rattle.simulator.proofs.write_record.Reads as reads
-use Rattle.simulator.proofs.write_record.Lts as lts
-use Rattle.history.proofs.advance.Reads as advance-reads
-use Rattle.history.proofs.save.Reads as save-reads
-use Rattle.machine.proofs.inverse.Reads as inverse-reads
 
--- src/lib.rt:73:9
 returns : tie.Need-returns
-returns c = ?
+unfolding pushed
+returns c = rw (c .if1 .taken)
 
--- src/lib.rt:75:14
 mul-at : tie.Need-mul-at
 mul-at c = search needs
 
--- src/lib.rt:76:9
 inverse-requires : tie.Need-inverse-requires
 inverse-requires c κs = search needs
 
--- src/lib.rt:77:19
 mul-save : tie.Need-mul-save
 mul-save c = search needs
 
--- src/lib.rt:77:19
 sub-save : tie.Need-sub-save
 sub-save c = search needs
 
--- src/lib.rt:77:19
 part-save-start : tie.Need-part-save-start
 part-save-start c = search needs
 
--- src/lib.rt:77:19
 part-save-end : tie.Need-part-save-end
 part-save-end c = search needs
 
--- src/lib.rt:77:5
 save-requires : tie.Need-save-requires
-save-requires c κs = ?
+save-requires c κs =
+    let inverted = c .before in
+    let start = inverted .before .before .before .before .before .before in
+    (simp (length-take, length-drop) (omega arith), rw (inverted .inverse .ensures) (start .pre .1 .1 .1))
 
--- src/lib.rt:78:5
 advance-requires : tie.Need-advance-requires
 advance-requires c κs = search needs
 
--- src/lib.rt:56:1
 same-length : tie.Need-same-length
 same-length c = search needs
 
--- src/lib.rt:56:1
 returns-2 : tie.Need-returns-2
 returns-2 c = ?
 
