@@ -1,0 +1,113 @@
+-- A machine that logs how to undo each accepted word answers every list of calls as one that stacks copies of its state, if its
+-- log keeps the laws below. What a state, a log or a copy is, is not known here. Assumes nothing.
+use Prim.Native.Nat.{ℕ}
+use mathlib.Core.Bool.{Bool, true, false, cond}
+use mathlib.Core.List.{List, [], _∷_}
+use mathlib.Core.Path.{_≡_, refl}
+use Rattle.machine.specs.declared.Code.{Code}
+use Rattle.machine.specs.declared.Code.the-variants.{NoHistory}
+use Rattle.machine.specs.Codes.{isDone}
+use Rattle.simulator.specs.Calls.{Call, Out, refused, done, whenDone, inOrder, Machine, calls}
+use Rattle.simulator.proofs.Alike.{OutAlike, LeftAlike, EndedAlike, CallsAlike, in-order-alike, calls-alike}
+
+-- what the rules give a word on a state that breaks none: its code, and the state after it
+pub record Rules (S : Type 0) : Type 0 where
+  pub code : S → ℕ → Code
+  pub after : S → ℕ → S
+
+-- a machine that stacks copies, newest first; a word may make the oldest go
+pub record Stacking {S Y : Type 0} (rules : Rules S) (K : Type 0) (plain : Machine Y) : Type 0 where
+  pub holding : S → List K → Y
+  pub pile : S → ℕ → List K → List K
+  pub copied : K → S
+  pub steps : (s : S) (ks : List K) (w : ℕ)
+      → plain .step (holding s ks) w ≡ whenDone (rules .code s w) (holding (rules .after s w) (pile s w ks))
+  pub runs : (y : Y) (ws : List ℕ) → plain .run y ws ≡ inOrder (plain .step) y ws
+  pub none : (s : S) → plain .back (holding s []) ≡ refused NoHistory
+  pub newest : (s : S) (k : K) (ks : List K) → plain .back (holding s (k ∷ ks)) ≡ done (holding (copied k) ks)
+
+-- a machine that logs, as long as no rule of its setup is broken
+pub record Logging {S X : Type 0} (rules : Rules S) (L : Type 0) (ours : Machine X) : Type 0 where
+  pub logging : S → L → X
+  pub formed : S → L → Bool
+  pub push : S → ℕ → L → L
+  pub steps : (s : S) (l : L) (w : ℕ) → formed s l ≡ true
+      → ours .step (logging s l) w ≡ whenDone (rules .code s w) (logging (rules .after s w) (push s w l))
+  pub runs : (s : S) (l : L) (ws : List ℕ) → formed s l ≡ true → ours .run (logging s l) ws ≡ inOrder (ours .step) (logging s l) ws
+
+module _ {S X Y L K : Type 0} {rules : Rules S} {ours : Machine X} {plain : Machine Y} (logs : Logging rules L ours) (stacks : Stacking rules K plain) where
+  -- a step back gives the copy k, and a log that undoes to the older ones
+  pub record Popped (Undoes : S → L → List K → Type 0) (s : S) (l : L) (k : K) (ks : List K) : Type 0 where
+    pub rest : L
+    pub back : ours .back (logs .logging s l) ≡ done (logs .logging (stacks .copied k) rest)
+    pub undoes : Undoes (stacks .copied k) rest ks
+
+  -- THE INTERFACE. `Start`: what is asked of the start. `Undoes s l ks`: no rule of the setup is broken, and at the state s the log l
+  -- undoes to each of the copies ks in turn, and to no more.
+  pub record UndoLog (Start : S → L → Type 0) : Type 1 where
+    pub Undoes : S → L → List K → Type 0
+    pub starts : (s : S) (l : L) → Start s l → Undoes s l []
+    pub holds : (s : S) (l : L) (ks : List K) → Undoes s l ks → logs .formed s l ≡ true
+    pub pushes : (s : S) (l : L) (ks : List K) (w : ℕ) → Undoes s l ks → isDone (rules .code s w) ≡ true
+        → Undoes (rules .after s w) (logs .push s w l) (stacks .pile s w ks)
+    pub empty : (s : S) (l : L) → Undoes s l [] → ours .back (logs .logging s l) ≡ refused NoHistory
+    pub pops : (s : S) (l : L) (k : K) (ks : List K) → Undoes s l (k ∷ ks) → Popped Undoes s l k ks
+
+  module _ {Start : S → L → Type 0} (laws : UndoLog Start) where
+    -- both machines at one state, with a log that undoes to the copies
+    pub record Beside (x : X) (y : Y) : Type 0 where
+      pub state : S
+      pub log : L
+      pub copies : List K
+      pub ours-at : x ≡ logs .logging state log
+      pub plain-at : y ≡ stacks .holding state copies
+      pub undoes : laws .Undoes state log copies
+
+    beside : (s : S) (l : L) (ks : List K) → laws .Undoes s l ks → Beside (logs .logging s l) (stacks .holding s ks)
+    beside s l ks u = record { state = s; log = l; copies = ks; ours-at = refl; plain-at = refl; undoes = u }
+
+    step-alike : (x : X) (y : Y) (w : ℕ) → Beside x y → OutAlike Beside (ours .step x w) (plain .step y w)
+    step-alike x y w r =
+        rw (r .ours-at, r .plain-at, logs .steps s l w (laws .holds s l ks (r .undoes)), stacks .steps s ks w) (go (isDone code) refl)
+      where
+        s : S
+        s = r .state
+
+        l : L
+        l = r .log
+
+        ks : List K
+        ks = r .copies
+
+        code : Code
+        code = rules .code s w
+
+        go : (t : Bool) → isDone code ≡ t
+            → OutAlike Beside (cond t (done (logs .logging (rules .after s w) (logs .push s w l))) (refused code))
+            (cond t (done (stacks .holding (rules .after s w) (stacks .pile s w ks))) (refused code))
+        go true e = beside (rules .after s w) (logs .push s w l) (stacks .pile s w ks) (laws .pushes s l ks w (r .undoes) e)
+        go false e = refl
+
+    run-alike : (x : X) (y : Y) (ws : List ℕ) → Beside x y → LeftAlike Beside (ours .run x ws) (plain .run y ws)
+    run-alike x y ws r =
+        rw (r .ours-at, logs .runs (r .state) (r .log) ws (laws .holds (r .state) (r .log) (r .copies) (r .undoes)), ← r .ours-at, stacks .runs y ws)
+        (in-order-alike Beside (ours .step) (plain .step) step-alike ws x y r)
+
+    back-at : (s : S) (l : L) (ks : List K) → laws .Undoes s l ks
+        → OutAlike Beside (ours .back (logs .logging s l)) (plain .back (stacks .holding s ks))
+    back-at s l [] u = rw (laws .empty s l u, stacks .none s)
+    back-at s l (k ∷ ks) u =
+        let p = laws .pops s l k ks u in
+        rw (p .back, stacks .newest s k ks) (beside (stacks .copied k) (p .rest) ks (p .undoes))
+
+    -- every list of calls, from a state with an empty log beside the same state with no copy
+    pub calls-beside : (s : S) (l : L) → Start s l → (list : List Call)
+        → EndedAlike Beside (calls ours (logs .logging s l) list) (calls plain (stacks .holding s []) list)
+    calls-beside s l start list =
+        calls-alike Beside ours plain
+        (record {
+        step = step-alike;
+        run = run-alike;
+        back = λ x y r. rw (r .ours-at, r .plain-at) (back-at (r .state) (r .log) (r .copies) (r .undoes));
+        })
+        list (logs .logging s l) (stacks .holding s []) (beside s l [] (laws .starts s l start))
