@@ -1,26 +1,22 @@
--- Demand 3 (specs/Demand3): from every well-formed setup with an empty history, every list of steps, runs and steps back gets from the
--- simulator (specs/Steps) the codes and counts that it gets from the plain machine (specs/PlainMachine), and ends in the same state.
--- Both judge and carry out words by machine's specs/Words. Assumes nothing.
-use Prim.Native.Nat.{ℕ, _<_}
-use mathlib.Core.Bool.{true, false}
+-- Demand 3 holds of the simulator. Assumes nothing.
+use Prim.Native.Nat.{ℕ}
+use mathlib.Core.Bool.{true}
 use mathlib.Core.List.{List, [], _∷_}
 use mathlib.Core.Path.{_≡_, refl, ap, sym, _∙_}
 use native.Mathlib.Omega.{arith}
-use lib.Dec.{eqb}
-use lib.ListN.{length, take}
+use lib.ListN.{take}
 use borrow.Author.Tests.{eq-eqb, ne-eqb}
 use Rattle.isa.specs.Decoding.{decodeOf}
 use Rattle.machine.specs.declared.Code.the-variants.{NoHistory}
 use Rattle.machine.specs.Codes.{isDone, firstOf}
-use Rattle.machine.specs.Setup.{sound, slotsOf}
+use Rattle.machine.specs.Setup.{sound}
 use Rattle.machine.specs.State.{State, Typed}
 use Rattle.machine.specs.Words.{wordOutcome}
 use Rattle.machine.proofs.WellFormed.{word-sound}
-use Rattle.history.specs.BadRecords.{malformed}
 use Rattle.history.specs.History.{History, capacity}
 use Rattle.history.specs.Recording.{recordOf}
 use Rattle.history.specs.Ring.{pushed, newest, popped}
-use Rattle.simulator.specs.Calls.{refused, done}
+use Rattle.simulator.specs.Calls.{refused}
 use Rattle.simulator.specs.Demand3.{Demand3}
 use Rattle.simulator.specs.PlainMachine.{Plain, plainStep, plainBack, plainMachine}
 use Rattle.simulator.specs.Simulation.{Simulation, wellFormed}
@@ -69,9 +65,8 @@ record Good (s : State) : Type 0 where
   typed : Typed s
 
 -- a record that undoes
-record Undoing (r : List ℕ) (s before : State) : Type 0 where
-  restores : Restores r s before
-  good : Good before
+abbrev Undoing : List ℕ → State → State → Type 0
+Undoing r s before = Restores r s before × Good before
 
 record Undoes (c : ℕ) (s : State) (h : History) (ks : List State) : Type 0 where
   good : Good s
@@ -98,43 +93,32 @@ module _ (c : ℕ) where
       (record {
         good = record { sounds = word-sound w s (g .sounds); typed = word-typed w s (g .sounds) (g .typed) };
         ringed =
-          ring-push Undoing c h s (wordOutcome true w s .state) ks (recordOf (decodeOf w) s) (restores .wide)
-          (record { restores = restores; good = g }) (u .ringed);
+            ring-push Undoing c h s (wordOutcome true w s .state) ks (recordOf (decodeOf w) s) (restores .wide)
+            (restores, g) (u .ringed);
       })
 
   empty : (s : State) (h : History) → Undoes c s h [] → stepBackOf (at s h) ≡ refused NoHistory
   unfolding stepBackOf firstOf
   empty s h u = rw (holds s h [] u, eq-eqb (h .cursor .held) 0 (u .ringed .held))
 
-  pops : (s : State) (h : History) (k : State) (ks : List State) → Undoes c s h (k ∷ ks) → stepBackOf (at s h) ≡ done (at k (popped h))
-  unfolding stepBackOf firstOf
+  pops : (s : State) (h : History) (k : State) (ks : List State) → Undoes c s h (k ∷ ks) → Popped logging (stacking c) (Undoes c) s h k ks
+  unfolding logging stacking stepBackOf firstOf
   pops s h k ks u =
-      let r = ring-newest Undoing c h s k ks (u .ringed) .restores in
+      let (restores, good) = ring-newest Undoing c h s k ks (u .ringed) in
       let some : h .cursor .held ≡ 0 → ⊥ = omega (arith, u .ringed .held) in
-      rw (holds s h (k ∷ ks) u, ne-eqb (h .cursor .held) 0 some, r .well, r .back)
+      record {
+        rest = popped h;
+        back = rw (holds s h (k ∷ ks) u, ne-eqb (h .cursor .held) 0 some, restores .well, restores .back);
+        undoes = record { good = good; ringed = ring-pop Undoing c h s k ks (u .ringed) };
+      }
 
   undo-log : UndoLog logging (stacking c) Start
   unfolding logging stacking
-  undo-log =
-      record {
-        Undoes = Undoes c;
-        starts = starts;
-        holds = holds;
-        pushes = pushes;
-        empty = empty;
-        pops =
-          λ s h k ks u.
-          record {
-            rest = popped h;
-            back = pops s h k ks u;
-            undoes =
-              record {
-                good = ring-newest Undoing c h s k ks (u .ringed) .good;
-                ringed = ring-pop Undoing c h s k ks (u .ringed);
-              };
-          };
-      }
+  undo-log = record { Undoes = Undoes c; starts = starts; holds = holds; pushes = pushes; empty = empty; pops = pops }
 
+-- From every well-formed setup with an empty history, every list of steps, runs and steps back gets from the simulator of specs/Steps
+-- the codes and counts that it gets from the plain machine of specs/PlainMachine, and both end in one state. A step's code and state
+-- are those of machine's specs/Words, in Arm's form; records and ring are those of history's specs/Recording and specs/Ring.
 pub demand3 : Demand3 simulator
 unfolding Demand3 logging stacking
 demand3 start typed formed empty list =

@@ -5,7 +5,6 @@ use mathlib.Core.List.{List, [], _∷_}
 use mathlib.Core.Logic.{_↔_}
 use mathlib.Core.Path.{_≡_, refl, ap, subst}
 use native.Mathlib.Nat.{add-suc, suc-add, add-zero, zero-add}
-use native.Mathlib.Omega.{arith}
 use lib.ListN.{length}
 use Rattle.isa.specs.Decoding.{decodeOf}
 use Rattle.machine.specs.declared.Code.{Code}
@@ -63,21 +62,21 @@ pub ill-formed : (s : Simulation) (w : ℕ) → wellFormed s ≡ false → stepO
 unfolding stepOf wordOutcome firstOf
 ill-formed s w h = rw h
 
+-- the same code, and the same machine after it
+abbrev pub SameCall : Left Simulation → Left Simulation → Type 0
+SameCall l m = (l .answer .code ≡ m .answer .code) × (l .after ≡ m .after)
+
 -- a run of one word is its step, but for the count
-pub one-word : (s : Simulation) (w : ℕ)
-    → (runOf s (w ∷ []) .answer .code ≡ answered s (stepOf s w) .answer .code) × (runOf s (w ∷ []) .after ≡ answered s (stepOf s w) .after)
+pub one-word : (s : Simulation) (w : ℕ) → SameCall (runOf s (w ∷ [])) (answered s (stepOf s w))
 unfolding runOf inOrder
 one-word s w = go (wellFormed s) refl
   where
     first : (o : Out Simulation)
-        → let l : Left Simulation = elim o [ refused code ↦ left code 0 s | done after ↦ oneMore (left Done 0 after) ] in
-        (l .answer .code ≡ answered s o .answer .code) × (l .after ≡ answered s o .after)
+        → SameCall (elim o [ refused code ↦ left code 0 s | done after ↦ oneMore (left Done 0 after) ]) (answered s o)
     first (refused code) = (refl, refl)
     first (done after) = (refl, refl)
 
-    go : (t : Bool) → wellFormed s ≡ t
-        → let l : Left Simulation = cond t (inOrder stepOf s (w ∷ [])) (left Setup 0 s) in
-        (l .answer .code ≡ answered s (stepOf s w) .answer .code) × (l .after ≡ answered s (stepOf s w) .after)
+    go : (t : Bool) → wellFormed s ≡ t → SameCall (cond t (inOrder stepOf s (w ∷ [])) (left Setup 0 s)) (answered s (stepOf s w))
     go true h = first (stepOf s w)
     go false h = rw (ill-formed s w h) (refl, refl)
 

@@ -1,5 +1,4 @@
--- The ring of slots undoes to the states whose records it holds, whatever a record and a state are: of a record it asks eight words
--- that undo. Assumes nothing.
+-- The ring of slots undoes to the states whose records it holds, whatever they are, if each record undoes. Assumes nothing.
 use Prim.Native.Nat.{ℕ, zero, suc, _+_, _*_, _-_, _%_, _≤_, _<_, suc-le-suc, zero-le}
 use mathlib.Core.List.{List, [], _∷_, _++_, append-assoc}
 use mathlib.Core.Logic.{_≢_}
@@ -61,11 +60,11 @@ apart c k j h g e = go (decLt (k + suc j) (suc c))
         let q : k + suc j - suc c ≡ k = sym (mod-eq-of-lt (omega arith)) ∙ sym (mod-eq-sub-mod (omega arith)) ∙ e in
         omega arith
 
-module _ {S : Type 0} (Undoes : List ℕ → S → S → Type 0) where
+module _ {S : Type 0} (Undoing : List ℕ → S → S → Type 0) where
   -- with c slots and the cursor at n: at s the records undo to each of the copies in turn
   abbrev Backed : List ℕ → ℕ → ℕ → S → List S → Type 0
   Backed ws c n s [] = Unit {0}
-  Backed ws c n s (k ∷ ks) = Undoes (slot (previous c n) ws) s k × Backed ws c (previous c n) k ks
+  Backed ws c n s (k ∷ ks) = Undoing (slot (previous c n) ws) s k × Backed ws c (previous c n) k ks
 
   pub record Ringed (c : ℕ) (h : History) (s : S) (ks : List S) : Type 0 where
     pub size : capacity h ≡ c
@@ -79,16 +78,15 @@ module _ {S : Type 0} (Undoes : List ℕ → S → S → Type 0) where
   keeps c k ws r e b zero n s ks g q i = tt
   keeps c k ws r e b (suc j) n s [] g q i = tt
   keeps c k ws r e b (suc j) n s (x ∷ ks) g q i =
-      let d : previous (suc c) n ≡ (k + suc j) % suc c = ap (previous (suc c)) q ∙ previous-up c k (suc j) in
-      (
-        subst (λ (m : List ℕ). Undoes m s x) (sym (slot-other (previous (suc c) n) k ws r e (λ z. apart c k j b g (sym d ∙ z)))) (i .0),
+      let d : previous (suc c) n ≡ (k + suc j) % suc c = ap (previous (suc c)) q ∙ previous-up c k (suc j) in (
+        subst (λ (m : List ℕ). Undoing m s x) (sym (slot-other (previous (suc c) n) k ws r e (λ z. apart c k j b g (sym d ∙ z)))) (i .0),
         keeps c k ws r e b j (previous (suc c) n) x ks (omega arith) d (i .1),
       )
 
   pub ring-start : (h : History) (s : S) → Placed (capacity h) (h .cursor) → h .cursor .held ≡ 0 → Ringed (capacity h) h s []
   ring-start h s p e = record { size = refl; cursor = p; held = e; backed = tt }
 
-  pub ring-push : (c : ℕ) (h : History) (s s′ : S) (ks : List S) (r : List ℕ) → length r ≡ 8 → Undoes r s′ s → Ringed c h s ks
+  pub ring-push : (c : ℕ) (h : History) (s s′ : S) (ks : List S) (r : List ℕ) → length r ≡ 8 → Undoing r s′ s → Ringed c h s ks
       → Ringed c (pushed r h) s′ (take c (s ∷ ks))
   unfolding advanced
   ring-push zero h s s′ ks r e u i =
@@ -111,7 +109,7 @@ module _ {S : Type 0} (Undoes : List ℕ → S → S → Type 0) where
         backed = rw here (rw (slot-same n (h .words) r e (omega arith)) u, keeps c n (h .words) r e b c n s ks (le-refl c) around (i .backed));
       }))
 
-  pub ring-newest : (c : ℕ) (h : History) (s k : S) (ks : List S) → Ringed c h s (k ∷ ks) → Undoes (newest h) s k
+  pub ring-newest : (c : ℕ) (h : History) (s k : S) (ks : List S) → Ringed c h s (k ∷ ks) → Undoing (newest h) s k
   unfolding newest
   ring-newest c h s k ks i = rw (i .size) (i .backed .0)
 

@@ -1,5 +1,4 @@
--- A machine that logs how to undo each accepted word answers every list of calls as one that stacks copies of its state, if its
--- log keeps the laws below. What a state, a log or a copy is, is not known here. Assumes nothing.
+-- A machine that logs how to undo its words answers every list of calls as one that stacks copies of its state. Assumes nothing.
 use Prim.Native.Nat.{ℕ}
 use mathlib.Core.Bool.{Bool, true, false, cond}
 use mathlib.Core.List.{List, [], _∷_}
@@ -7,8 +6,10 @@ use mathlib.Core.Path.{_≡_, refl}
 use Rattle.machine.specs.declared.Code.{Code}
 use Rattle.machine.specs.declared.Code.the-variants.{NoHistory}
 use Rattle.machine.specs.Codes.{isDone}
-use Rattle.simulator.specs.Calls.{Call, Out, refused, done, whenDone, inOrder, Machine, calls}
-use Rattle.simulator.proofs.Alike.{OutAlike, LeftAlike, EndedAlike, CallsAlike, in-order-alike, calls-alike}
+use Rattle.simulator.specs.Calls.{Call, refused, done, whenDone, inOrder, Machine, calls}
+use Rattle.simulator.proofs.Alike.{OutAlike, LeftAlike, EndedAlike, in-order-alike, calls-alike}
+
+-- What a state, a log and a copy are is not known here: a log owes the laws of `UndoLog`, whatever its layout.
 
 -- what the rules give a word on a state that breaks none: its code, and the state after it
 pub record Rules (S : Type 0) : Type 0 where
@@ -42,8 +43,8 @@ module _ {S X Y L K : Type 0} {rules : Rules S} {ours : Machine X} {plain : Mach
     pub back : ours .back (logs .logging s l) ≡ done (logs .logging (stacks .copied k) rest)
     pub undoes : Undoes (stacks .copied k) rest ks
 
-  -- THE INTERFACE. `Start`: what is asked of the start. `Undoes s l ks`: no rule of the setup is broken, and at the state s the log l
-  -- undoes to each of the copies ks in turn, and to no more.
+  -- the laws that a log owes. `Start`: what is asked of the start. `Undoes s l ks`: no rule of the setup is broken, and at the state s
+  -- the log l undoes to each of the copies ks in turn, and to no more.
   pub record UndoLog (Start : S → L → Type 0) : Type 1 where
     pub Undoes : S → L → List K → Type 0
     pub starts : (s : S) (l : L) → Start s l → Undoes s l []
@@ -106,8 +107,8 @@ module _ {S X Y L K : Type 0} {rules : Rules S} {ours : Machine X} {plain : Mach
     calls-beside s l start list =
         calls-alike Beside ours plain
         (record {
-        step = step-alike;
-        run = run-alike;
-        back = λ x y r. rw (r .ours-at, r .plain-at) (back-at (r .state) (r .log) (r .copies) (r .undoes));
+          step = step-alike;
+          run = run-alike;
+          back = λ x y r. rw (r .ours-at, r .plain-at) (back-at (r .state) (r .log) (r .copies) (r .undoes));
         })
         list (logs .logging s l) (stacks .holding s []) (beside s l [] (laws .starts s l start))
