@@ -2,7 +2,7 @@
 use Prim.Native.Nat.{ℕ}
 use mathlib.Core.Bool.{true}
 use mathlib.Core.List.{List, [], _∷_}
-use mathlib.Core.Path.{_≡_, refl, ap, sym, _∙_}
+use mathlib.Core.Path.{_≡_, refl}
 use native.Mathlib.Omega.{arith}
 use lib.ListN.{take}
 use borrow.Author.Tests.{eq-eqb, ne-eqb}
@@ -25,7 +25,7 @@ use Rattle.simulator.proofs.Cursors.{placed, placed-ok}
 use Rattle.simulator.proofs.Kept.{well-formed}
 use Rattle.simulator.proofs.Ring.{Ringed, ring-start, ring-push, ring-newest, ring-pop}
 use Rattle.simulator.proofs.Scratch.{word-typed, Restores, word-undone}
-use Rattle.simulator.proofs.UndoLog.{Rules, Stacking, Logging, UndoLog, Popped, calls-beside}
+use Rattle.simulator.proofs.UndoLog.{Rules, Stacking, Logging, UndoLog, Popped, Beside, beside, calls-beside}
 
 abbrev rules : Rules State
 rules = record { code = λ s w. wordOutcome (sound s) w s .code; after = λ s w. wordOutcome (sound s) w s .state }
@@ -44,18 +44,18 @@ stacking c =
       newest = λ s k ks. refl;
     }
 
-abbrev at : State → History → Simulation
-at s h = record { state = s; history = h }
+abbrev joined : State → History → Simulation
+joined s h = record { state = s; history = h }
 
 -- the simulator logs records
 logging : Logging rules History simulator
 unfolding stepOf runOf
 logging =
     record {
-      logging = at;
-      formed = λ s h. wellFormed (at s h);
+      joined = joined;
+      formed = λ s h. wellFormed (joined s h);
       push = λ s w h. pushed (recordOf (decodeOf w) s) h;
-      steps = λ s h w f. rw (f, well-formed (at s h) .0 f .0);
+      steps = λ s h w f. rw (f, well-formed (joined s h) .0 f .0);
       runs = λ s h ws f. rw f;
     }
 
@@ -74,15 +74,15 @@ record Undoes (c : ℕ) (s : State) (h : History) (ks : List State) : Type 0 whe
 
 module _ (c : ℕ) where
   abbrev Start : State → History → Type 0
-  Start s h = (wellFormed (at s h) ≡ true) × Typed s × (h .cursor .held ≡ 0) × (capacity h ≡ c)
+  Start s h = (wellFormed (joined s h) ≡ true) × Typed s × (h .cursor .held ≡ 0) × (capacity h ≡ c)
 
   starts : (s : State) (h : History) → Start s h → Undoes c s h []
   starts s h (f, t, e, z) =
-      let (ok, rule) = well-formed (at s h) .0 f in
+      let (ok, rule) = well-formed (joined s h) .0 f in
       record { good = record { sounds = ok; typed = t }; ringed = rw z at (ring-start Undoing h s (placed _ _ rule) e) }
 
-  holds : (s : State) (h : History) (ks : List State) → Undoes c s h ks → wellFormed (at s h) ≡ true
-  holds s h ks u = well-formed (at s h) .1 (u .good .sounds, rw (u .ringed .size) (placed-ok c (h .cursor) (u .ringed .cursor)))
+  holds : (s : State) (h : History) (ks : List State) → Undoes c s h ks → wellFormed (joined s h) ≡ true
+  holds s h ks u = well-formed (joined s h) .1 (u .good .sounds, rw (u .ringed .size) (placed-ok c (h .cursor) (u .ringed .cursor)))
 
   pushes : (s : State) (h : History) (ks : List State) (w : ℕ) → Undoes c s h ks → isDone (rules .code s w) ≡ true
       → Undoes c (rules .after s w) (pushed (recordOf (decodeOf w) s) h) (take c (s ∷ ks))
@@ -97,7 +97,7 @@ module _ (c : ℕ) where
             (restores, g) (u .ringed);
       })
 
-  empty : (s : State) (h : History) → Undoes c s h [] → stepBackOf (at s h) ≡ refused NoHistory
+  empty : (s : State) (h : History) → Undoes c s h [] → stepBackOf (joined s h) ≡ refused NoHistory
   unfolding stepBackOf firstOf
   empty s h u = rw (holds s h [] u, eq-eqb (h .cursor .held) 0 (u .ringed .held))
 
@@ -116,6 +116,10 @@ module _ (c : ℕ) where
   unfolding logging stacking
   undo-log = record { Undoes = Undoes c; starts = starts; holds = holds; pushes = pushes; empty = empty; pops = pops }
 
+  same-state : (x : Simulation) (p : Plain) → Beside logging (stacking c) undo-log x p → x .state ≡ p .state
+  unfolding logging stacking
+  same-state x p (beside s h ks u) = refl
+
 -- From every well-formed setup with an empty history, every list of steps, runs and steps back gets from the simulator of specs/Steps
 -- the codes and counts that it gets from the plain machine of specs/PlainMachine, and both end in one state. A step's code and state
 -- are those of machine's specs/Words, in Arm's form; records and ring are those of history's specs/Recording and specs/Ring.
@@ -124,4 +128,4 @@ unfolding Demand3 logging stacking
 demand3 start typed formed empty list =
     let c : ℕ = capacity (start .history) in
     let ended = calls-beside logging (stacking c) (undo-log c) (start .state) (start .history) (formed, typed, empty, refl) list in
-    record { answers = ended .answers; state = ap (λ (x : Simulation). x .state) (ended .final .ours-at) ∙ sym (ap (λ (p : Plain). p .state) (ended .final .plain-at)) }
+    record { answers = ended .answers; state = same-state c _ _ (ended .final) }

@@ -29,18 +29,18 @@ pub record Stacking {S Y : Type 0} (rules : Rules S) (K : Type 0) (plain : Machi
 
 -- a machine that logs, as long as no rule of its setup is broken
 pub record Logging {S X : Type 0} (rules : Rules S) (L : Type 0) (ours : Machine X) : Type 0 where
-  pub logging : S → L → X
+  pub joined : S → L → X
   pub formed : S → L → Bool
   pub push : S → ℕ → L → L
   pub steps : (s : S) (l : L) (w : ℕ) → formed s l ≡ true
-      → ours .step (logging s l) w ≡ whenDone (rules .code s w) (logging (rules .after s w) (push s w l))
-  pub runs : (s : S) (l : L) (ws : List ℕ) → formed s l ≡ true → ours .run (logging s l) ws ≡ inOrder (ours .step) (logging s l) ws
+      → ours .step (joined s l) w ≡ whenDone (rules .code s w) (joined (rules .after s w) (push s w l))
+  pub runs : (s : S) (l : L) (ws : List ℕ) → formed s l ≡ true → ours .run (joined s l) ws ≡ inOrder (ours .step) (joined s l) ws
 
 module _ {S X Y L K : Type 0} {rules : Rules S} {ours : Machine X} {plain : Machine Y} (logs : Logging rules L ours) (stacks : Stacking rules K plain) where
   -- a step back gives the copy k, and a log that undoes to the older ones
   pub record Popped (Undoes : S → L → List K → Type 0) (s : S) (l : L) (k : K) (ks : List K) : Type 0 where
     pub rest : L
-    pub back : ours .back (logs .logging s l) ≡ done (logs .logging (stacks .copied k) rest)
+    pub back : ours .back (logs .joined s l) ≡ done (logs .joined (stacks .copied k) rest)
     pub undoes : Undoes (stacks .copied k) rest ks
 
   -- the laws that a log owes. `Start`: what is asked of the start. `Undoes s l ks`: no rule of the setup is broken, and at the state s
@@ -51,64 +51,38 @@ module _ {S X Y L K : Type 0} {rules : Rules S} {ours : Machine X} {plain : Mach
     pub holds : (s : S) (l : L) (ks : List K) → Undoes s l ks → logs .formed s l ≡ true
     pub pushes : (s : S) (l : L) (ks : List K) (w : ℕ) → Undoes s l ks → isDone (rules .code s w) ≡ true
         → Undoes (rules .after s w) (logs .push s w l) (stacks .pile s w ks)
-    pub empty : (s : S) (l : L) → Undoes s l [] → ours .back (logs .logging s l) ≡ refused NoHistory
+    pub empty : (s : S) (l : L) → Undoes s l [] → ours .back (logs .joined s l) ≡ refused NoHistory
     pub pops : (s : S) (l : L) (k : K) (ks : List K) → Undoes s l (k ∷ ks) → Popped Undoes s l k ks
 
   module _ {Start : S → L → Type 0} (laws : UndoLog Start) where
     -- both machines at one state, with a log that undoes to the copies
-    pub record Beside (x : X) (y : Y) : Type 0 where
-      pub state : S
-      pub log : L
-      pub copies : List K
-      pub ours-at : x ≡ logs .logging state log
-      pub plain-at : y ≡ stacks .holding state copies
-      pub undoes : laws .Undoes state log copies
-
-    beside : (s : S) (l : L) (ks : List K) → laws .Undoes s l ks → Beside (logs .logging s l) (stacks .holding s ks)
-    beside s l ks u = record { state = s; log = l; copies = ks; ours-at = refl; plain-at = refl; undoes = u }
+    pub data Beside : X → Y → Type 0 where
+      beside : (s : S) (l : L) (ks : List K) → laws .Undoes s l ks → Beside (logs .joined s l) (stacks .holding s ks)
 
     step-alike : (x : X) (y : Y) (w : ℕ) → Beside x y → OutAlike Beside (ours .step x w) (plain .step y w)
-    step-alike x y w r =
-        rw (r .ours-at, r .plain-at, logs .steps s l w (laws .holds s l ks (r .undoes)), stacks .steps s ks w) (go (isDone code) refl)
+    step-alike x y w (beside s l ks u) =
+        rw (logs .steps s l w (laws .holds s l ks u), stacks .steps s ks w) (go (isDone (rules .code s w)) refl)
       where
-        s : S
-        s = r .state
-
-        l : L
-        l = r .log
-
-        ks : List K
-        ks = r .copies
-
-        code : Code
-        code = rules .code s w
-
-        go : (t : Bool) → isDone code ≡ t
-            → OutAlike Beside (cond t (done (logs .logging (rules .after s w) (logs .push s w l))) (refused code))
-            (cond t (done (stacks .holding (rules .after s w) (stacks .pile s w ks))) (refused code))
-        go true e = beside (rules .after s w) (logs .push s w l) (stacks .pile s w ks) (laws .pushes s l ks w (r .undoes) e)
+        go : (t : Bool) → isDone (rules .code s w) ≡ t
+            → OutAlike Beside (cond t (done (logs .joined (rules .after s w) (logs .push s w l))) (refused (rules .code s w)))
+            (cond t (done (stacks .holding (rules .after s w) (stacks .pile s w ks))) (refused (rules .code s w)))
+        go true e = beside (rules .after s w) (logs .push s w l) (stacks .pile s w ks) (laws .pushes s l ks w u e)
         go false e = refl
 
     run-alike : (x : X) (y : Y) (ws : List ℕ) → Beside x y → LeftAlike Beside (ours .run x ws) (plain .run y ws)
-    run-alike x y ws r =
-        rw (r .ours-at, logs .runs (r .state) (r .log) ws (laws .holds (r .state) (r .log) (r .copies) (r .undoes)), ← r .ours-at, stacks .runs y ws)
-        (in-order-alike Beside (ours .step) (plain .step) step-alike ws x y r)
+    run-alike x y ws (beside s l ks u) =
+        rw (logs .runs s l ws (laws .holds s l ks u), stacks .runs (stacks .holding s ks) ws)
+        (in-order-alike Beside (ours .step) (plain .step) step-alike ws _ _ (beside s l ks u))
 
-    back-at : (s : S) (l : L) (ks : List K) → laws .Undoes s l ks
-        → OutAlike Beside (ours .back (logs .logging s l)) (plain .back (stacks .holding s ks))
-    back-at s l [] u = rw (laws .empty s l u, stacks .none s)
-    back-at s l (k ∷ ks) u =
+    back-alike : (x : X) (y : Y) → Beside x y → OutAlike Beside (ours .back x) (plain .back y)
+    back-alike x y (beside s l [] u) = rw (laws .empty s l u, stacks .none s)
+    back-alike x y (beside s l (k ∷ ks) u) =
         let p = laws .pops s l k ks u in
         rw (p .back, stacks .newest s k ks) (beside (stacks .copied k) (p .rest) ks (p .undoes))
 
     -- every list of calls, from a state with an empty log beside the same state with no copy
     pub calls-beside : (s : S) (l : L) → Start s l → (list : List Call)
-        → EndedAlike Beside (calls ours (logs .logging s l) list) (calls plain (stacks .holding s []) list)
+        → EndedAlike Beside (calls ours (logs .joined s l) list) (calls plain (stacks .holding s []) list)
     calls-beside s l start list =
-        calls-alike Beside ours plain
-        (record {
-          step = step-alike;
-          run = run-alike;
-          back = λ x y r. rw (r .ours-at, r .plain-at) (back-at (r .state) (r .log) (r .copies) (r .undoes));
-        })
-        list (logs .logging s l) (stacks .holding s []) (beside s l [] (laws .starts s l start))
+        calls-alike Beside ours plain (record { step = step-alike; run = run-alike; back = back-alike }) list _ _
+        (beside s l [] (laws .starts s l start))
