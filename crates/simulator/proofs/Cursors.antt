@@ -14,7 +14,7 @@ use Rattle.machine.specs.Setup.{cursorOk}
 use Rattle.history.specs.History.{History, capacity}
 use Rattle.history.specs.Ring.{advanced, previous, retreated, pushed}
 
--- with no slots both are 0
+-- next and held in their ranges: 0 if there are no slots
 pub record Placed (c : ℕ) (cursor : Cursor) : Type 0 where
   pub next : cursor .next < max c 1
   pub held : cursor .held ≤ c
@@ -66,7 +66,8 @@ unfolding retreated previous
 retreated-placed c cursor some p = omega (arith, mod-lt (cursor .next + (c - 1)) some)
 
 pub pushed-words : (r : List ℕ) (h : History) → length (pushed r h .words) ≡ length (h .words)
-pushed-words r h = pushed-either (λ g. length (g .words) ≡ length (h .words)) r h (λ none. refl) (λ some. length-sets (h .words) (8 * h .cursor .next) r)
+pushed-words r h =
+    pushed-either (λ g. length (g .words) ≡ length (h .words)) r h (λ none. refl) (λ some. length-sets (h .words) (8 * h .cursor .next) r)
 
 pub pushed-placed : (r : List ℕ) (h : History) → Placed (capacity h) (h .cursor) → Placed (capacity h) (pushed r h .cursor)
 pushed-placed r h p = pushed-either (λ g. Placed (capacity h) (g .cursor)) r h (λ none. p) (advanced-placed (capacity h) (h .cursor))

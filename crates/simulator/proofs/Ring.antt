@@ -2,7 +2,7 @@
 use Prim.Native.Nat.{ℕ, zero, suc, _+_, _*_, _-_, _%_, _≤_, _<_, suc-le-suc, zero-le}
 use mathlib.Core.List.{List, [], _∷_, _++_, append-assoc}
 use mathlib.Core.Logic.{_≢_}
-use mathlib.Core.Path.{_≡_, refl, ap, sym, _∙_, subst}
+use mathlib.Core.Path.{_≡_, refl, ap, sym, _∙_}
 use native.Mathlib.Decide.{decLt}
 use native.Mathlib.Nat.{add-zero, le-refl, mod-add-mod, add-mod-right, mod-eq-of-lt, mod-eq-sub-mod}
 use native.Mathlib.Omega.{arith}
@@ -73,15 +73,15 @@ module _ {S : Type 0} (Undoing : List ℕ → S → S → Type 0) where
     pub backed : Backed (h .words) c (h .cursor .next) s ks
 
   -- a record written at slot k leaves the j newest of a cursor that is j + 1 above it
-  keeps : (c k : ℕ) (ws r : List ℕ) → length r ≡ 8 → k < suc c → (j n : ℕ) (s : S) (ks : List S) → j ≤ c → n ≡ (k + suc j) % suc c
-      → Backed ws (suc c) n s ks → Backed (sets ws (8 * k) r) (suc c) n s (take j ks)
+  keeps : (c k : ℕ) (ws r : List ℕ) → length r ≡ 8 → k < suc c → (j n : ℕ) (s : S) (ks : List S) → j ≤ c
+      → n ≡ (k + suc j) % suc c → Backed ws (suc c) n s ks → Backed (sets ws (8 * k) r) (suc c) n s (take j ks)
   keeps c k ws r e b zero n s ks g q i = tt
   keeps c k ws r e b (suc j) n s [] g q i = tt
   keeps c k ws r e b (suc j) n s (x ∷ ks) g q i =
-      let d : previous (suc c) n ≡ (k + suc j) % suc c = ap (previous (suc c)) q ∙ previous-up c k (suc j) in (
-        subst (λ (m : List ℕ). Undoing m s x) (sym (slot-other (previous (suc c) n) k ws r e (λ z. apart c k j b g (sym d ∙ z)))) (i .0),
-        keeps c k ws r e b j (previous (suc c) n) x ks (omega arith) d (i .1),
-      )
+      let m : ℕ = previous (suc c) n in
+      let d : m ≡ (k + suc j) % suc c = ap (previous (suc c)) q ∙ previous-up c k (suc j) in
+      let other : slot m (sets ws (8 * k) r) ≡ slot m ws = slot-other m k ws r e (λ z. apart c k j b g (sym d ∙ z)) in
+      (rw other (i .0), keeps c k ws r e b j m x ks (omega arith) d (i .1))
 
   pub ring-start : (h : History) (s : S) → Placed (capacity h) (h .cursor) → h .cursor .held ≡ 0 → Ringed (capacity h) h s []
   ring-start h s p e = record { size = refl; cursor = p; held = e; backed = tt }

@@ -36,7 +36,8 @@ pub record Logging {S X : Type 0} (rules : Rules S) (L : Type 0) (ours : Machine
       → ours .step (joined s l) w ≡ whenDone (rules .code s w) (joined (rules .after s w) (push s w l))
   pub runs : (s : S) (l : L) (ws : List ℕ) → formed s l ≡ true → ours .run (joined s l) ws ≡ inOrder (ours .step) (joined s l) ws
 
-module _ {S X Y L K : Type 0} {rules : Rules S} {ours : Machine X} {plain : Machine Y} (logs : Logging rules L ours) (stacks : Stacking rules K plain) where
+module _ {S X Y L K : Type 0} {rules : Rules S} {ours : Machine X} {plain : Machine Y}
+    (logs : Logging rules L ours) (stacks : Stacking rules K plain) where
   -- a step back gives the copy k, and a log that undoes to the older ones
   pub record Popped (Undoes : S → L → List K → Type 0) (s : S) (l : L) (k : K) (ks : List K) : Type 0 where
     pub rest : L
