@@ -13,9 +13,6 @@ use Rattle.history.specs.BadRecords.{malformed}
 use Rattle.history.specs.Records.{entryIn}
 use Rattle.history.specs.Recording.{recordOf, restored}
 
-pub word-typed : (w : ℕ) (s : State) → sound s ≡ true → Typed s → Typed (wordOutcome true w s .state)
-word-typed w s h t = ?
-
 pub record Restores (r : List ℕ) (after before : State) : Type 0 where
   pub wide : length r ≡ 8
   pub well : malformed (length (after .tags)) r ≡ false
