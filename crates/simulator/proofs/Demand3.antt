@@ -14,6 +14,7 @@ use Rattle.machine.specs.State.{State, Typed}
 use Rattle.machine.specs.Words.{wordOutcome}
 use Rattle.machine.proofs.TypedStates.{word-typed}
 use Rattle.machine.proofs.WellFormed.{word-sound}
+use Rattle.history.proofs.Recorded.{Restores, word-undone}
 use Rattle.history.specs.History.{History, capacity}
 use Rattle.history.specs.Recording.{recordOf}
 use Rattle.history.specs.Ring.{pushed, newest, popped}
@@ -25,7 +26,6 @@ use Rattle.simulator.specs.Steps.{stepOf, runOf, stepBackOf, simulator}
 use Rattle.simulator.proofs.Cursors.{placed, placed-ok}
 use Rattle.simulator.proofs.Kept.{well-formed}
 use Rattle.simulator.proofs.Ring.{Ringed, ring-start, ring-push, ring-newest, ring-pop}
-use Rattle.simulator.proofs.Scratch.{Restores, word-undone}
 use Rattle.simulator.proofs.UndoLog.{Rules, Stacking, Logging, UndoLog, Popped, Beside, beside, calls-beside}
 
 abbrev rules : Rules State

@@ -4,5 +4,4 @@ pub mod Cursors
 pub mod Demand3
 pub mod Kept
 pub mod Ring
-pub mod Scratch
 pub mod UndoLog
