@@ -14,10 +14,10 @@ use Rattle.machine.specs.State.{State, Typed}
 use Rattle.machine.specs.Words.{wordOutcome}
 use Rattle.machine.proofs.TypedStates.{word-typed}
 use Rattle.machine.proofs.WellFormed.{word-sound}
-use Rattle.history.proofs.Recorded.{Restores, word-undone}
 use Rattle.history.specs.History.{History, capacity}
 use Rattle.history.specs.Recording.{recordOf}
-use Rattle.history.specs.Ring.{pushed, newest, popped}
+use Rattle.history.specs.Ring.{pushed, popped}
+use Rattle.history.proofs.Recorded.{Restores, word-undone}
 use Rattle.simulator.specs.Calls.{refused}
 use Rattle.simulator.specs.Demand3.{Demand3}
 use Rattle.simulator.specs.PlainMachine.{Plain, plainStep, plainBack, plainMachine}
