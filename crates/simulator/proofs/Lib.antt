@@ -1,4 +1,8 @@
 -- Laws of the definitions, for the proofs here and in the crates above.
-pub mod Taking
-pub mod Kept
+pub mod Alike
 pub mod Cursors
+pub mod Demand3
+pub mod Kept
+pub mod Ring
+pub mod Taking
+pub mod UndoLog
