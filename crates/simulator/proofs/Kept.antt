@@ -3,7 +3,7 @@ use Prim.Native.Nat.{ℕ, suc, _+_}
 use mathlib.Core.Bool.{Bool, true, false, cond, and-eq-true-iff}
 use mathlib.Core.List.{List, [], _∷_}
 use mathlib.Core.Logic.{_↔_}
-use mathlib.Core.Path.{_≡_, refl, ap, subst}
+use mathlib.Core.Path.{_≡_, refl, sym, ap, _∙_, subst}
 use native.Mathlib.Nat.{add-suc, suc-add, add-zero, zero-add}
 use lib.ListN.{length}
 use Rattle.isa.specs.Decoding.{decodeOf}
@@ -79,6 +79,20 @@ one-word s w = go (wellFormed s) refl
     go : (t : Bool) → wellFormed s ≡ t → SameCall (cond t (inOrder stepOf s (w ∷ [])) (left Setup 0 s)) (answered s (stepOf s w))
     go true h = first (stepOf s w)
     go false h = rw (ill-formed s w h) (refl, refl)
+
+-- so a run of one word answers for the step
+pub one-step : (s : Simulation) (w : ℕ) (l : Left Simulation) → l ≡ runOf s (w ∷ []) → left (l .answer .code) 0 (l .after) ≡ answered s (stepOf s w)
+one-step s w l e = go (answered s (stepOf s w)) (uncounted (stepOf s w)) (one-word s w)
+  where
+    uncounted : (o : Out Simulation) → answered s o .answer .count ≡ 0
+    uncounted (refused code) = refl
+    uncounted (done after) = refl
+
+    go : (m : Left Simulation) → m .answer .count ≡ 0 → SameCall (runOf s (w ∷ [])) m → left (l .answer .code) 0 (l .after) ≡ m
+    go m z same =
+        let code = ap (λ (k : Left Simulation). k .answer .code) e ∙ same .0 in
+        let after = ap (λ (k : Left Simulation). k .after) e ∙ same .1 in
+        λ i. left (code i) (sym z i) (after i)
 
 -- a run, where n words were done before
 

@@ -4,5 +4,7 @@ pub mod Cursors
 pub mod Demand3
 pub mod Kept
 pub mod Ring
+pub mod Runs
+pub mod StepsBack
 pub mod Taking
 pub mod UndoLog

@@ -1,81 +1,69 @@
+-- `simulator::step_back` meets its contract. Assumes nothing.
 use borrow.Author.Needs.{needs}
+use mathlib.Core.Bool.{not, Bool·not-not}
+use mathlib.Core.Path.{sym, ap, _∙_}
+use lib.ListN.{length}
+use Rattle.machine.proofs.Setup.{setup-state, state-sized}
+use Rattle.simulator.specs.Simulation.{Simulation, simulation, wellFormed}
+use Rattle.simulator.proofs.StepsBack.{back-setup, back-none, back-cursor, back-slot, back-undone}
 use Rattle.simulator.proofs.step_back.Statement.{statement}
 use Rattle.simulator.proofs.step_back.Tie as tie
-use Rattle.simulator.proofs.step_back.Reads as reads
-use Rattle.simulator.proofs.step_back.Lts as lts
-use Rattle.history.proofs.is_malformed.Reads as is-malformed-reads
-use Rattle.history.proofs.load.Reads as load-reads
-use Rattle.history.proofs.retreat.Reads as retreat-reads
-use Rattle.machine.proofs.setup_ok.Reads as setup-ok-reads
-use Rattle.simulator.proofs.undo.Reads as undo-reads
 
--- src/lib.rt:256:9
 setup-ok-requires : tie.Need-setup-ok-requires
 setup-ok-requires c κs = search needs
 
--- src/lib.rt:257:9
 returns : tie.Need-returns
-returns c = ?
+unfolding wellFormed
+returns c =
+    let a = c .before .before .before .before .before .args in
+    let s : Simulation = simulation (a .machine) (a .bytes .now) (a .tags .now) (a .history .now) in
+    rw (back-setup s (sym (c .before .setup-ok .ensures) ∙ sym (Bool·not-not _) ∙ ap not (c .if1 .taken)))
 
--- src/lib.rt:264:9
 returns-2 : tie.Need-returns-2
-returns-2 c = ?
+unfolding wellFormed
+returns-2 c =
+    let tested = c .before .before .before in
+    let a = tested .before .before .before .before .before .args in
+    let s : Simulation = simulation (a .machine) (a .bytes .now) (a .tags .now) (a .history .now) in
+    rw (back-none s (sym (tested .before .setup-ok .ensures) ∙ sym (Bool·not-not _) ∙ ap not (tested .if1 .left)) (c .if2 .taken))
 
--- src/lib.rt:269:9
 retreat-requires : tie.Need-retreat-requires
-retreat-requires c κs = ?
+unfolding wellFormed
+retreat-requires c κs =
+    let tested = c .before .before .before in
+    let a = tested .before .before .before .before .before .args in
+    let s : Simulation = simulation (a .machine) (a .bytes .now) (a .tags .now) (a .history .now) in
+    back-cursor s (sym (tested .before .setup-ok .ensures) ∙ sym (Bool·not-not _) ∙ ap not (tested .if1 .left)) (c .if2 .left)
 
--- src/lib.rt:270:14
-mul-at : tie.Need-mul-at
-mul-at c = ?
+undo-at-requires : tie.Need-undo-at-requires
+unfolding wellFormed
+undo-at-requires c κs =
+    let moved = c .before .before in
+    let tested = moved .before .before .before .before in
+    let a = tested .before .before .before .before .before .args in
+    let s : Simulation = simulation (a .machine) (a .bytes .now) (a .tags .now) (a .history .now) in
+    let h = sym (tested .before .setup-ok .ensures) ∙ sym (Bool·not-not _) ∙ ap not (tested .if1 .left) in
+    let ok = setup-state (a .machine) (length (a .bytes .now)) (length (a .tags .now)) (length (a .history .now)) h in (
+      rw (moved .retreat .ensures) (back-slot s h (moved .before .if2 .left)),
+      state-sized (a .machine .settings) (a .machine .registers .status) (length (a .bytes .now)) (length (a .tags .now)) ok .sixteen,
+    )
 
--- src/lib.rt:271:29
-add-slot : tie.Need-add-slot
-add-slot c = ?
-
--- src/lib.rt:271:16
-mul-slot : tie.Need-mul-slot
-mul-slot c = ?
-
--- src/lib.rt:271:16
-sub-slot : tie.Need-sub-slot
-sub-slot c = search needs
-
--- src/lib.rt:271:16
-part-slot-start : tie.Need-part-slot-start
-part-slot-start c = search needs
-
--- src/lib.rt:271:16
-part-slot-end : tie.Need-part-slot-end
-part-slot-end c = ?
-
--- src/lib.rt:272:8
-is-malformed-requires : tie.Need-is-malformed-requires
-is-malformed-requires c κs = search needs
-
--- src/lib.rt:273:9
-returns-3 : tie.Need-returns-3
-returns-3 c = ?
-
--- src/lib.rt:280:40
-load-requires : tie.Need-load-requires
-load-requires c κs = search needs
-
--- src/lib.rt:280:18
-undo-requires : tie.Need-undo-requires
-undo-requires c κs = ?
-
--- src/lib.rt:248:1
 same-length : tie.Need-same-length
 same-length c = search needs
 
--- src/lib.rt:248:1
 same-length-2 : tie.Need-same-length-2
 same-length-2 c = search needs
 
--- src/lib.rt:248:1
-returns-4 : tie.Need-returns-4
-returns-4 c = ?
+returns-3 : tie.Need-returns-3
+unfolding wellFormed
+returns-3 c =
+    let undone = c .before .before .before .before in
+    let moved = undone .before .before .before in
+    let tested = moved .before .before .before .before in
+    let a = tested .before .before .before .before .before .args in
+    let s : Simulation = simulation (a .machine) (a .bytes .now) (a .tags .now) (a .history .now) in
+    let h = sym (tested .before .setup-ok .ensures) ∙ sym (Bool·not-not _) ∙ ap not (tested .if1 .left) in
+    rw (back-undone s h (moved .before .if2 .left), ← (moved .retreat .ensures)) (undone .undo-at .ensures)
 
 pub step-back-spec : {M : Type 1} → statement M
 step-back-spec =
@@ -85,16 +73,7 @@ step-back-spec =
     returns
     returns-2
     retreat-requires
-    mul-at
-    add-slot
-    mul-slot
-    sub-slot
-    part-slot-start
-    part-slot-end
-    is-malformed-requires
-    returns-3
-    load-requires
-    undo-requires
+    undo-at-requires
     same-length
     same-length-2
-    returns-4)
+    returns-3)
