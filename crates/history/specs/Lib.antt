@@ -4,3 +4,4 @@ pub mod BadRecords
 pub mod Recording
 pub mod Ring
 pub mod Undo
+pub mod WellFormedRecords

@@ -4,10 +4,13 @@ pub mod Edges
 pub mod Granules
 pub mod Judgement
 pub mod Outcomes
+pub mod Parts
 pub mod Places
 pub mod Ranges
 pub mod Setup
 pub mod Statuses
 pub mod StoreEffects
+pub mod TypedStates
+pub mod Undone
 pub mod WellFormed
 pub mod Within

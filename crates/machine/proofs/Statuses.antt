@@ -34,7 +34,7 @@ flags-le a b carry =
     (cond-lt (eqb (sumWithCarry a b carry) (a + b + carry)) (omega arith) (omega arith))
     (cond-lt (eqb (signedPlus (sumWithCarry a b carry) + 2 ^ 63) (signedPlus a + signedPlus b + carry)) (omega arith) (omega arith))
 
-pub random-tag-lt : (status : Status) (mask : ℕ) → status .rgsr ≤ 15 → randomTag status mask < 16
+random-tag-lt : (status : Status) (mask : ℕ) → status .rgsr ≤ 15 → randomTag status mask < 16
 random-tag-lt status mask h = chosen-lt (status .rgsr) _ mask (omega arith)
 
 -- what holds of the status as it is, with any flags and after any draw, holds of the status that an accepted word leaves
@@ -67,3 +67,14 @@ module _ (P : Status → Type 0) (settings : Settings) (x : List ℕ) (status : 
   unfolding planOf
   plan-status (Is f) = form-status f
   plan-status NoForm = tt
+
+-- NZCV and RGSR's tag stay at most 15
+abbrev pub StatusInRange : Status → Type 0
+StatusInRange status = (status .nzcv ≤ 15) × (status .rgsr ≤ 15)
+
+pub plan-statuses : (settings : Settings) (x : List ℕ) (status : Status) (tags : List ℕ) → StatusInRange status → (decoded : Decoded)
+    → IfAccepted (λ e. StatusInRange (e .status)) (planOf settings x status tags decoded)
+plan-statuses settings x status tags (nzcv, rgsr) =
+    plan-status StatusInRange settings x status tags (nzcv, rgsr)
+    (λ flags k. (k, rgsr))
+    (λ mask. (nzcv, omega (arith, random-tag-lt status mask rgsr)))

@@ -3,7 +3,6 @@ use Prim.Native.Nat.{ℕ, _≤_}
 use mathlib.Core.Bool.{Bool, true, false, cond}
 use mathlib.Core.List.{List}
 use mathlib.Core.Path.{_≡_, refl, subst}
-use native.Mathlib.Omega.{arith}
 use lib.Dec.{ltb}
 use lib.ListN.{length, set, length-set}
 use lib.Seq.{length-sets}
@@ -15,13 +14,11 @@ use Rattle.machine.specs.declared.Judged.the-variants.{Refused, Accepted
 use Rattle.machine.specs.State.{State}
 use Rattle.machine.specs.Setup.{statusOk, stateOk, sound}
 use Rattle.machine.specs.Registers.{written}
-use Rattle.machine.specs.Pointers.{withNzcv}
-use Rattle.machine.specs.RandomTag.{afterDraw}
 use Rattle.machine.specs.Words.{Outcome, wordOutcome}
 use Rattle.machine.specs.Plans.{planOf, planOutcome, IfAccepted}
 use Rattle.machine.proofs.Setup.{state-sizes, state-status}
 use Rattle.machine.proofs.Outcomes.{plan-outcome}
-use Rattle.machine.proofs.Statuses.{random-tag-lt, plan-status}
+use Rattle.machine.proofs.Statuses.{StatusInRange, plan-statuses}
 
 -- a state with the settings and the sizes of another
 pub record SameShape (after s : State) : Type 0 where
@@ -48,19 +45,20 @@ plan-keeps (Accepted e) s =
       tags = simp length-sets;
     }
 
-plan-sound : (j : Judged) (s : State) → sound s ≡ true → IfAccepted (λ e. statusOk (e .status) ≡ true) j → sound (planOutcome j s .state) ≡ true
-unfolding planOutcome stateOk
-plan-sound (Refused code) s h k = h
-plan-sound (Accepted e) s h k = simp (length-sets, state-sizes (s .settings) (s .registers .status) (length (s .bytes)) (length (s .tags)) h, k)
-
 status-ok : (status : Status) → status .nzcv ≤ 15 → status .rgsr ≤ 15 → statusOk status ≡ true
 status-ok status h k = simp (le-leb (status .nzcv) 15, le-leb (status .rgsr) 15)
+
+plan-sound : (j : Judged) (s : State) → sound s ≡ true → IfAccepted (λ e. StatusInRange (e .status)) j → sound (planOutcome j s .state) ≡ true
+unfolding planOutcome stateOk
+plan-sound (Refused code) s h k = h
+plan-sound (Accepted e) s h (nzcv, rgsr) =
+    simp (length-sets, state-sizes (s .settings) (s .registers .status) (length (s .bytes)) (length (s .tags)) h, status-ok (e .status) nzcv rgsr)
 
 module _ (w : ℕ) (s : State) (h : sound s ≡ true) where
   abbrev plan : Judged
   plan = planOf (s .settings) (s .registers .x) (s .registers .status) (s .tags) (decodeOf w)
 
-  planned : planOutcome plan s ≡ wordOutcome true w s
+  pub planned : planOutcome plan s ≡ wordOutcome true w s
   unfolding wordOutcome
   planned = plan-outcome s (decodeOf w) h
 
@@ -69,11 +67,7 @@ module _ (w : ℕ) (s : State) (h : sound s ≡ true) where
 
   pub word-sound : sound (wordOutcome true w s .state) ≡ true
   word-sound =
-      let status = s .registers .status in
-      let (nzcv, rgsr) = state-status (s .settings) status (length (s .bytes)) (length (s .tags)) h in
       subst (λ (o : Outcome). sound (o .state) ≡ true) planned
       (plan-sound plan s h
-      (plan-status (λ status. statusOk status ≡ true) (s .settings) (s .registers .x) status (s .tags)
-      (status-ok status nzcv rgsr)
-      (λ flags k. status-ok (withNzcv flags status) k rgsr)
-      (λ mask. status-ok (afterDraw status mask) nzcv (omega (arith, random-tag-lt status mask rgsr))) (decodeOf w)))
+      (plan-statuses (s .settings) (s .registers .x) (s .registers .status) (s .tags)
+      (state-status (s .settings) (s .registers .status) (length (s .bytes)) (length (s .tags)) h) (decodeOf w)))

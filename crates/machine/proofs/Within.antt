@@ -62,7 +62,7 @@ module _ (settings : Settings) (x : List ℕ) (status : Status) (tags : List ℕ
       accepted Inside (placeOf settings (length tags) n from address pair) (storeEffect settings x status mode n amount pair tag change)
       (λ i e.
       let k = place-inside settings (length tags) n from address pair i (state-sizes settings status (16 * length tags) (length tags) ok) e in
-      record { few = few-named pair; inside = k; wide = omega arith; some = λ h. one-named pair })
+      record { few = few-named pair; inside = k; wide = small; some = λ h. one-named pair })
 
   form-within : (f : Form) → IfAccepted Inside (formPlan settings x status tags f)
   form-within (AddSub op d n amount offset) = register-within (length tags) _ _ _

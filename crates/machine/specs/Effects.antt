@@ -1,5 +1,5 @@
--- Effects: what an accepted word changes, as plain data. They are no notion of document 01, and the contract of `execute` does
--- not speak of them: by the law of proofs/Outcomes the effect of a word leaves the state that specs/Words gives.
+-- Effects: what an accepted word changes, as plain data. They are no notion of document 01: by the law of proofs/Outcomes the
+-- effect of a word leaves the state that specs/Words gives.
 use Prim.Native.Nat.{ℕ, _+_, _*_, _≤_}
 use mathlib.Core.Path.{_≡_}
 use mathlib.Core.Bool.{Bool, true, cond}
@@ -50,5 +50,5 @@ room (Words a b c d) n = cond (eqb n 2) 2 1
 pub record Within (e : Effect) (g : ℕ) : Type 0 where
   pub few : e .granules ≤ 2
   pub inside : e .first + e .granules ≤ g
-  pub wide : e .first + room (e .change) (e .granules) ≤ g
+  pub wide : room (e .change) (e .granules) ≤ e .granules
   pub some : e .tagged ≡ true → 1 ≤ e .granules

@@ -9,7 +9,6 @@ pub mod TagLoad
 pub mod TagStores
 pub mod PairStore
 pub mod Words
-pub mod Execution
 pub mod Effects
 pub mod Inverses
 pub mod Plans

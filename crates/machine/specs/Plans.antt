@@ -1,6 +1,5 @@
 -- The effect of each form, or the refusal: what `judge` answers. No notion of document 01: see specs/Effects.
 use Prim.Native.Nat.{ℕ}
-use mathlib.Core.Path.{_≡_}
 use mathlib.Core.Bool.{Bool, true, false, cond}
 use mathlib.Core.List.{List}
 use lib.ListN.{length}
@@ -24,13 +23,12 @@ use Rattle.machine.specs.declared.Status.{Status}
 use Rattle.machine.specs.declared.Change.{Change}
 use Rattle.machine.specs.declared.Change.the-variants.{Keep, Zero, Pair}
 use Rattle.machine.specs.declared.Effect.{Effect}
-use Rattle.machine.specs.declared.Code.{Code}
 use Rattle.machine.specs.declared.Code.the-variants.{Done, Undefined, SpAlign, Align, Outside}
 use Rattle.machine.specs.declared.Placed.{Placed}
 use Rattle.machine.specs.declared.Placed.the-variants.{First, Nowhere}
 use Rattle.machine.specs.declared.Judged.{Judged}
 use Rattle.machine.specs.declared.Judged.the-variants.{Refused, Accepted}
-use Rattle.machine.specs.State.{State, stateOf}
+use Rattle.machine.specs.State.{State}
 use Rattle.machine.specs.Registers.{xOrSp, xOrZero, orNone}
 use Rattle.machine.specs.Codes.{codeNumber}
 use Rattle.machine.specs.Accesses.{addressOf, spMisaligned, misaligned}
@@ -146,23 +144,16 @@ unfoldable pub planOutcome : Judged → State → Outcome
 planOutcome (Refused code) s = record { code = code; state = s }
 planOutcome (Accepted e) s = record { code = Done; state = applied e s }
 
-abbrev pub outcome : Code → Settings → List ℕ → Status → List ℕ → List ℕ → Outcome
-outcome code settings x status bytes tags = record { code = code; state = stateOf settings x status bytes tags }
-
--- what was judged, carried out: whatever the settings, from one state to a code and another
-abbrev pub Carries : Judged → List ℕ → Status → List ℕ → List ℕ → Code → List ℕ → Status → List ℕ → List ℕ → Type 0
-Carries judged x status bytes tags code x′ status′ bytes′ tags′ =
-    (settings : Settings) → outcome code settings x′ status′ bytes′ tags′ ≡ planOutcome judged (stateOf settings x status bytes tags)
-
--- what the functions ask: fields in range, and an effect's granules inside
-
+-- what `judge` asks: fields in range
 abbrev pub decodedFits : Decoded → Bool
 decodedFits (Is f) = fieldsFit f
 decodedFits NoForm = true
 
+-- what holds of the effect, if there is one
 abbrev pub IfAccepted : (Effect → Type 0) → Judged → Type 0
 IfAccepted P (Refused code) = Unit {0}
 IfAccepted P (Accepted e) = P e
 
+-- its granules are inside
 abbrev pub JudgedWithin : Judged → ℕ → Type 0
 JudgedWithin judged g = IfAccepted (λ e. Within e g) judged

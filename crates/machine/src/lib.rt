@@ -1,15 +1,14 @@
-// The machine: what each word does to it, judged first and then applied.
+// The machine: what each word does to it, judged first and then applied, and what undoes that.
 ghost use mathlib.Core.Path.{_≡_};
 ghost use mathlib.Core.Bool.{true};
 ghost use Prim.Native.Nat.{_*_};
 ghost use lib.ListN.{length};
 ghost use Rattle.machine.specs.Codes.{codeNumber};
 ghost use Rattle.machine.specs.Effects.{Within, bytesAfter, tagsAfter, xAfter};
-ghost use Rattle.machine.specs.Execution.{executed, executionOf};
-ghost use Rattle.machine.specs.Plans.{Carries, JudgedWithin, decodedFits, judgedCode, outcome, planOf};
+ghost use Rattle.machine.specs.Inverses.{inverse};
+ghost use Rattle.machine.specs.Plans.{decodedFits, judgedCode, planOf};
 ghost use Rattle.machine.specs.Setup.{cursorOk, setupOk, stateOk};
-ghost use Rattle.machine.specs.State.{freshOn, stateOf};
-ghost use Rattle.machine.specs.Words.{wordOutcome};
+ghost use Rattle.machine.specs.State.{freshOn};
 use isa::Decoded;
 
 mod accesses;
@@ -99,17 +98,6 @@ pub(crate) enum Placed {
 pub enum Judged {
     Refused(Code),
     Accepted(Effect),
-}
-
-pub struct Answer {
-    pub code: Code,
-    pub machine: Machine,
-}
-
-// The code and the status after a word.
-struct Performed {
-    code: Code,
-    status: Status,
 }
 
 impl Code {
@@ -238,76 +226,27 @@ pub fn apply(x: &mut [u64; 32], e: Effect, bytes: &mut [u8], tags: &mut [u8])
     register_file::write(x, e.register, e.value);
 }
 
-// Carries out what was judged.
-fn carry(
-    x: &mut [u64; 32],
-    status: Status,
-    judged: Judged,
-    bytes: &mut [u8],
-    tags: &mut [u8],
-) -> Performed
-    requires { ⌜ JudgedWithin judged (length (now tags)) ⌝ }
+// The effect that undoes an effect on this state: the old register, status, tag bytes and data.
+// Public because our own crates call it, with an effect whose granules they know to be inside.
+pub fn inverse(x: &[u64; 32], status: Status, bytes: &[u8], tags: &[u8], e: Effect) -> Effect
+    requires { ⌜ Within e (length (now tags)) ⌝ }
     requires { ⌜ length (now bytes) ≡ 16 * length (now tags) ⌝ }
-    ensures { λ r. ⌜ Carries judged (now (x .entry)) status (now (bytes .entry)) (now (tags .entry)) (r .code) (now (x .exit)) (r .status) (now (bytes .exit)) (now (tags .exit)) ⌝ }
+    ensures { λ r. ⌜ r ≡ inverse e (now (x .entry)) status (now (bytes .entry)) (now (tags .entry)) ⌝ }
 {
-    match judged {
-        Judged::Refused(code) => Performed {
-            code: code,
-            status: status,
-        },
-        Judged::Accepted(e) => {
-            apply(x, e, bytes, tags);
-            let after = e.status;
-            Performed {
-                code: Code::Done,
-                status: after,
-            }
-        }
-    }
-}
-
-// Judges a word and carries it out, on a setup that keeps the rules.
-fn perform(
-    x: &mut [u64; 32],
-    settings: Settings,
-    status: Status,
-    word: u32,
-    bytes: &mut [u8],
-    tags: &mut [u8],
-) -> Performed
-    requires { ⌜ stateOk settings status (length (now bytes)) (length (now tags)) ≡ true ⌝ }
-    ensures { λ r. ⌜ outcome (r .code) settings (now (x .exit)) (r .status) (now (bytes .exit)) (now (tags .exit)) ≡ wordOutcome true word (stateOf settings (now (x .entry)) status (now (bytes .entry)) (now (tags .entry))) ⌝ }
-{
-    let judged = judge(&*x, settings, status, &tags[..], isa::decode(word));
-    carry(x, status, judged, bytes, tags)
-}
-
-// Carries out one word on a machine that has no history.
-pub fn execute(machine: Machine, word: u32, bytes: &mut [u8], tags: &mut [u8]) -> Answer
-    ensures { λ r. ⌜ executed (r .code) (r .machine) (now (bytes .exit)) (now (tags .exit)) ≡ executionOf machine word (now (bytes .entry)) (now (tags .entry)) ⌝ }
-{
-    if setup_ok(machine, bytes.len(), tags.len(), 0) {
-        let settings = machine.settings;
-        let cursor = machine.cursor;
-        let status = machine.registers.status;
-        let mut x = machine.registers.x;
-        let performed = perform(&mut x, settings, status, word, bytes, tags);
-        let code = performed.code;
-        let after = performed.status;
-        return Answer {
-            code: code,
-            machine: Machine {
-                settings: settings,
-                registers: Registers {
-                    x: x,
-                    status: after,
-                },
-                cursor: cursor,
-            },
-        };
-    }
-    Answer {
-        code: Code::Setup,
-        machine: machine,
+    let change = e.change;
+    let first = e.first;
+    let granules = e.granules;
+    let some = granules != 0;
+    let old = effects::old_data(bytes, first, granules, change);
+    Effect {
+        register: e.register,
+        value: register_file::x_or_sp(x, e.register),
+        status: status,
+        first: first,
+        granules: granules,
+        tagged: some,
+        tag: effects::old_tag(tags, first, some),
+        second: effects::old_tag(tags, first + 1, granules == 2),
+        change: old,
     }
 }

@@ -1,7 +1,10 @@
 -- What the functions inside answer, for their contracts. No notion of document 01.
-use Prim.Native.Nat.{ℕ}
+use Prim.Native.Nat.{ℕ, _≤_, _<_, max}
+use mathlib.Core.Bool.{cond}
 use mathlib.Core.List.{List}
 use mathlib.Core.Path.{_≡_}
+use lib.ListN.{length}
+use Rattle.machine.specs.declared.Code.the-variants.{BadRecord}
 use Rattle.machine.specs.declared.Cursor.{Cursor}
 use Rattle.machine.specs.declared.Effect.{Effect}
 use Rattle.machine.specs.declared.Judged.{Judged}
@@ -14,7 +17,9 @@ use Rattle.machine.specs.Inverses.{inverse, inverseOn}
 use Rattle.machine.specs.Plans.{IfAccepted}
 use Rattle.machine.specs.State.{stateOf}
 use Rattle.history.specs.History.{History}
-use Rattle.history.specs.Records.{wordsOf}
+use Rattle.history.specs.BadRecords.{malformed}
+use Rattle.history.specs.Recording.{restored}
+use Rattle.history.specs.Records.{entryIn, wordsOf}
 use Rattle.history.specs.Ring.{pushed}
 use Rattle.history.specs.Undo.{Storable, entryWith}
 use Rattle.simulator.specs.declared.Taken.{Taken}
@@ -30,11 +35,22 @@ abbrev pub gathered : Settings → List ℕ → Status → List ℕ → List ℕ
 gathered settings x status bytes tags words cursor =
     record { state = stateOf settings x status bytes tags; history = historyOf words cursor }
 
+-- the rule of the cursor in one: next and held in their ranges, and both 0 if there are no slots
+pub record Placed (c : ℕ) (cursor : Cursor) : Type 0 where
+  pub next : cursor .next < max c 1
+  pub held : cursor .held ≤ c
+
 -- what was judged, recorded and applied
 unfoldable pub carriedOut : Judged → Simulation → Out Simulation
 carriedOut (NoEffect code) s = refused code
 carriedOut (Accepted e) s =
     done (record { state = applied e (s .state); history = pushed (wordsOf (entryWith (inverseOn e (s .state)))) (s .history) })
+
+-- a record undone, with the cursor moved back to it
+unfoldable pub undoneBy : List ℕ → Cursor → Simulation → Out Simulation
+undoneBy r cursor s =
+    cond (malformed (length (s .state .tags)) r) (refused BadRecord)
+    (done (record { state = restored (entryIn r) (s .state); history = historyOf (s .history .words) cursor }))
 
 -- a word taken: `out` is what it comes to, and `after` gathers what it left; a refused one has changed nothing
 abbrev pub Took : Taken → Simulation → Out Simulation → (Status → Cursor → Simulation) → Type 0

@@ -2,20 +2,20 @@
 // The machine goes in and out by value; its data bytes, tag bytes and history words are lent.
 ghost use mathlib.Core.Bool.{true};
 ghost use mathlib.Core.Path.{_≡_};
-ghost use Prim.Native.Nat.{_*_};
-ghost use lib.ListN.{length};
+ghost use Prim.Native.Nat.{_+_, _*_, _≤_};
+ghost use lib.ListN.{drop, length, take};
 ghost use Rattle.history.specs.Records.{wordsOf};
 ghost use Rattle.history.specs.Ring.{pushed};
 ghost use Rattle.history.specs.Undo.{Storable, entryWith};
 ghost use Rattle.machine.specs.Effects.{Within, applied};
 ghost use Rattle.machine.specs.Inverses.{inverse};
 ghost use Rattle.machine.specs.Plans.{JudgedWithin};
-ghost use Rattle.machine.specs.Setup.{cursorOk, slotsOf};
+ghost use Rattle.machine.specs.Setup.{slotsOf};
 ghost use Rattle.machine.specs.State.{withMemory};
 ghost use Rattle.simulator.specs.Calls.{answered, inOrder, left};
 ghost use Rattle.simulator.specs.Simulation.{simulation, wellFormed};
 ghost use Rattle.simulator.specs.Steps.{runOf, stepBackOf, stepOf};
-ghost use Rattle.simulator.specs.Taking.{Carries, JudgedStorable, Took, gathered, historyOf};
+ghost use Rattle.simulator.specs.Taking.{Carries, JudgedStorable, Placed, Took, gathered, historyOf, undoneBy};
 use machine::Code;
 use machine::Cursor;
 use machine::Effect;
@@ -53,7 +53,7 @@ struct Stop {
 }
 
 // Records what an effect is about to change, if there is a slot for it, and answers the cursor after that.
-fn record(
+fn write_record(
     x: &[u64; 32],
     status: Status,
     cursor: Cursor,
@@ -64,7 +64,7 @@ fn record(
 ) -> Cursor
     requires { ⌜ Within e (length (now tags)) ⌝ }
     requires { ⌜ length (now bytes) ≡ 16 * length (now tags) ⌝ }
-    requires { ⌜ cursorOk (slotsOf (length (now history))) cursor ≡ true ⌝ }
+    requires { ⌜ Placed (slotsOf (length (now history))) cursor ⌝ }
     requires { ⌜ Storable (inverse e (now x) status (now bytes) (now tags)) ⌝ }
     ensures { λ r. ⌜ historyOf (now (history .exit)) r ≡ pushed (wordsOf (entryWith (inverse e (now (x .entry)) status (now (bytes .entry)) (now (tags .entry))))) (historyOf (now (history .entry)) cursor) ⌝ }
 {
@@ -90,14 +90,14 @@ fn carry(
 ) -> Taken
     requires { ⌜ JudgedWithin judged (length (now tags)) ⌝ }
     requires { ⌜ length (now bytes) ≡ 16 * length (now tags) ⌝ }
-    requires { ⌜ cursorOk (slotsOf (length (now history))) cursor ≡ true ⌝ }
+    requires { ⌜ Placed (slotsOf (length (now history))) cursor ⌝ }
     requires { ⌜ JudgedStorable judged (now x) status (now bytes) (now tags) ⌝ }
     ensures { λ r. ⌜ Carries judged r (λ settings. gathered settings (now (x .entry)) status (now (bytes .entry)) (now (tags .entry)) (now (history .entry)) cursor) (λ settings status cursor. gathered settings (now (x .exit)) status (now (bytes .exit)) (now (tags .exit)) (now (history .exit)) cursor) ⌝ }
 {
     match judged {
         Judged::Refused(code) => Taken::Refused(code),
         Judged::Accepted(e) => {
-            let moved = record(&*x, status, cursor, &bytes[..], &tags[..], history, e);
+            let moved = write_record(&*x, status, cursor, &bytes[..], &tags[..], history, e);
             machine::apply(x, e, bytes, tags);
             let after = e.status;
             Taken::Went(after, moved)
@@ -180,7 +180,16 @@ pub fn run(
         let status = machine.registers.status;
         let cursor = machine.cursor;
         let mut x = machine.registers.x;
-        let stop = take_all(&mut x, settings, status, cursor, words, bytes, tags, history);
+        let stop = take_all(
+            &mut x,
+            settings,
+            status,
+            cursor,
+            words,
+            bytes,
+            tags,
+            history,
+        );
         let code = stop.code;
         let reached = stop.status;
         let moved = stop.cursor;
@@ -189,7 +198,10 @@ pub fn run(
             count: stop.count,
             machine: Machine {
                 settings: settings,
-                registers: Registers { x: x, status: reached },
+                registers: Registers {
+                    x: x,
+                    status: reached,
+                },
                 cursor: moved,
             },
         };
@@ -222,13 +234,7 @@ pub fn step(
 }
 
 // Applies what a record holds.
-fn undo(
-    machine: Machine,
-    cursor: Cursor,
-    e: Effect,
-    bytes: &mut [u8],
-    tags: &mut [u8],
-) -> Machine
+fn undo(machine: Machine, cursor: Cursor, e: Effect, bytes: &mut [u8], tags: &mut [u8]) -> Machine
     requires { ⌜ Within e (length (now tags)) ⌝ }
     requires { ⌜ length (now bytes) ≡ 16 * length (now tags) ⌝ }
     ensures { λ r. ⌜ (withMemory r (now (bytes .exit)) (now (tags .exit)) ≡ applied e (withMemory machine (now (bytes .entry)) (now (tags .entry)))) × (r .cursor ≡ cursor) ⌝ }
@@ -239,18 +245,42 @@ fn undo(
     let status = e.status;
     Machine {
         settings: settings,
-        registers: Registers { x: x, status: status },
+        registers: Registers {
+            x: x,
+            status: status,
+        },
         cursor: cursor,
     }
 }
 
-// Steps back: restores what the newest record holds.
-pub fn step_back(
+// Undoes the record at a cursor, unless it is malformed.
+fn undo_at(
     machine: Machine,
+    cursor: Cursor,
     bytes: &mut [u8],
     tags: &mut [u8],
     history: &[u64],
 ) -> Answer
+    requires { ⌜ 8 * cursor .next + 8 ≤ length (now history) ⌝ }
+    requires { ⌜ length (now bytes) ≡ 16 * length (now tags) ⌝ }
+    ensures { λ r. ⌜ left (r .code) 0 (simulation (r .machine) (now (bytes .exit)) (now (tags .exit)) (now (history .entry))) ≡ answered (simulation machine (now (bytes .entry)) (now (tags .entry)) (now (history .entry))) (undoneBy (take 8 (drop (8 * cursor .next) (now (history .entry)))) cursor (simulation machine (now (bytes .entry)) (now (tags .entry)) (now (history .entry)))) ⌝ }
+{
+    let at = 8 * cursor.next;
+    let slot = &history[at..at + 8];
+    if history::is_malformed(slot, tags.len()) {
+        return Answer {
+            code: Code::BadRecord,
+            machine: machine,
+        };
+    }
+    Answer {
+        code: Code::Done,
+        machine: undo(machine, cursor, history::load(slot), bytes, tags),
+    }
+}
+
+// Steps back: restores what the newest record holds.
+pub fn step_back(machine: Machine, bytes: &mut [u8], tags: &mut [u8], history: &[u64]) -> Answer
     ensures { λ r. ⌜ left (r .code) 0 (simulation (r .machine) (now (bytes .exit)) (now (tags .exit)) (now (history .entry))) ≡ answered (simulation machine (now (bytes .entry)) (now (tags .entry)) (now (history .entry))) (stepBackOf (simulation machine (now (bytes .entry)) (now (tags .entry)) (now (history .entry)))) ⌝ }
 {
     if !machine::setup_ok(machine, bytes.len(), tags.len(), history.len()) {
@@ -267,16 +297,5 @@ pub fn step_back(
         };
     }
     let before = history::retreat(cursor, history.len() / 8);
-    let at = 8 * before.next;
-    let slot = &history[at..at + 8];
-    if history::is_malformed(slot, tags.len()) {
-        return Answer {
-            code: Code::BadRecord,
-            machine: machine,
-        };
-    }
-    Answer {
-        code: Code::Done,
-        machine: undo(machine, before, history::load(slot), bytes, tags),
-    }
+    undo_at(machine, before, bytes, tags, history)
 }

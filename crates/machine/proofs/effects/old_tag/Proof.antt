@@ -1,0 +1,16 @@
+-- `machine::effects::old_tag` meets its contract. Assumes nothing.
+use borrow.Author.Needs.{needs}
+use Rattle.machine.proofs.effects.old_tag.Statement.{statement}
+use Rattle.machine.proofs.effects.old_tag.Tie as tie
+
+shared-slice-read-result : tie.Need-shared-slice-read-result
+shared-slice-read-result c = c .before .before .pre (c .before .if1 .taken)
+
+returns : tie.Need-returns
+returns c = rw (c .before .if1 .taken)
+
+returns-2 : tie.Need-returns-2
+returns-2 c = search needs
+
+pub old-tag-spec : {M : Type 1} → statement M
+old-tag-spec = tie.close (tie.spec shared-slice-read-result returns returns-2)

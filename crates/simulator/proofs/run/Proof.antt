@@ -1,0 +1,47 @@
+-- `simulator::run` meets its contract. Assumes nothing.
+use borrow.Author.Needs.{needs}
+use mathlib.Core.Bool.{true, false}
+use mathlib.Core.Path.{_≡_, sym, _∙_}
+use Rattle.simulator.specs.Simulation.{simulation, wellFormed}
+use Rattle.simulator.specs.Steps.{runOf}
+use Rattle.simulator.proofs.run.Statement.{statement}
+use Rattle.simulator.proofs.run.Tie as tie
+
+setup-ok-requires : tie.Need-setup-ok-requires
+setup-ok-requires c κs = search needs
+
+take-all-requires : tie.Need-take-all-requires
+unfolding wellFormed
+take-all-requires c κs = let tested = c .before .before .before .before .before .before .before .before in sym (tested .before .setup-ok .ensures) ∙ tested .if1 .taken
+
+same-length : tie.Need-same-length
+same-length c = search needs
+
+same-length-2 : tie.Need-same-length-2
+same-length-2 c = search needs
+
+same-length-3 : tie.Need-same-length-3
+same-length-3 c = search needs
+
+returns : tie.Need-returns
+unfolding wellFormed runOf
+returns c =
+    let ran = c .before .before .before .before .before .before .before .before in
+    let tested = ran .before .before .before .before .before .before .before .before .before in
+    rw (sym (tested .before .setup-ok .ensures) ∙ tested .if1 .taken) (ran .take-all .ensures)
+
+returns-2 : tie.Need-returns-2
+unfolding wellFormed runOf
+returns-2 c = rw (sym (c .before .setup-ok .ensures) ∙ c .if1 .left)
+
+pub run-spec : {M : Type 1} → statement M
+run-spec =
+    tie.close
+    (tie.spec
+    setup-ok-requires
+    take-all-requires
+    same-length
+    same-length-2
+    same-length-3
+    returns
+    returns-2)

@@ -1,0 +1,28 @@
+-- `simulator::step` meets its contract. Assumes nothing.
+use borrow.Author.Needs.{needs}
+use Rattle.simulator.proofs.Kept.{one-step}
+use Rattle.simulator.proofs.step.Statement.{statement}
+use Rattle.simulator.proofs.step.Tie as tie
+
+slice-aggregate-run : tie.Need-slice-aggregate-run
+slice-aggregate-run c = search needs
+
+run-requires : tie.Need-run-requires
+run-requires c κs = search needs
+
+same-length : tie.Need-same-length
+same-length c = search needs
+
+same-length-2 : tie.Need-same-length-2
+same-length-2 c = search needs
+
+same-length-3 : tie.Need-same-length-3
+same-length-3 c = search needs
+
+returns : tie.Need-returns
+returns c = one-step _ _ _ (c .before .before .before .before .before .before .before .run .ensures)
+
+pub step-spec : {M : Type 1} → statement M
+step-spec =
+    tie.close
+    (tie.spec slice-aggregate-run run-requires same-length same-length-2 same-length-3 returns)
