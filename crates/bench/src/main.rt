@@ -136,18 +136,18 @@ fn words_added(sum: u64, words: &[u64]) -> u64 {
     s
 }
 
-fn machine_added(sum: u64, machine: Machine) -> u64 {
+fn machine_sum(machine: Machine) -> u64 {
     let x = machine.registers.x;
     let status = machine.registers.status;
     let cursor = machine.cursor;
-    let a = words_added(sum, &x);
+    let a = words_added(0, &x);
     let b = added(added(a, status.nzcv as u64), status.rgsr as u64);
     let c = added(b, status.seed as u64);
     added(added(c, cursor.next as u64), cursor.held as u64)
 }
 
 fn checksum(machine: Machine, data: &[u8], tags: &[u8], history: &[u64]) -> u64 {
-    let a = machine_added(0, machine);
+    let a = machine_sum(machine);
     let b = bytes_added(a, tags);
     let c = bytes_added(b, data);
     words_added(c, history)
@@ -155,14 +155,12 @@ fn checksum(machine: Machine, data: &[u8], tags: &[u8], history: &[u64]) -> u64 
 
 // How many words a workload of so many bytes has; where they are no workload, more than there may be.
 fn words_in(bytes: usize) -> usize {
-    if bytes < HEAD {
-        return MOST_WORDS + 1;
+    if HEAD <= bytes {
+        if bytes % 4 == 0 {
+            return (bytes - HEAD) / 4;
+        }
     }
-    if bytes % 4 == 0 {
-        (bytes - HEAD) / 4
-    } else {
-        MOST_WORDS + 1
-    }
+    MOST_WORDS + 1
 }
 
 // Reads the words, as many as there may be.
@@ -232,17 +230,6 @@ fn bench(input: &mut [u8], words: &mut [u32], data: &mut [u8], tags: &mut [u8], 
         }
     }
     write_bad();
-}
-
-// Lends the arrays as slices, here where their types say how long they are.
-fn lend(
-    input: &mut [u8; ROOM],
-    words: &mut [u32; MOST_WORDS],
-    data: &mut [u8; 16384],
-    tags: &mut [u8; 1024],
-    history: &mut [u64; 8192],
-) {
-    bench(input, words, data, tags, history);
 }
 
 fn main() {

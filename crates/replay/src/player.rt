@@ -5,8 +5,8 @@ use super::numbers::at_most;
 use super::numbers::low_byte;
 use super::numbers::low_half;
 use super::numbers::low_word;
-use machine::Code;
 use machine::Machine;
+use simulator::Answer;
 
 // The most tag bytes, data bytes and history words that a script can give the machine, and words that it can list.
 pub(crate) const MOST_TAGS: usize = 0x1_0010;
@@ -145,38 +145,16 @@ fn list_stored(player: Player, index: u64, value: u64, list: &mut [u32]) -> Play
     w
 }
 
-// The player after a call that answered a code and a machine, and did so many words.
-fn answered(player: Player, code: Code, machine: Machine, count: usize) -> Player {
+fn answered(player: Player, answer: Answer) -> Player {
     let mut w = player;
+    let code = answer.code;
+    let machine = answer.machine;
     w.machine = machine;
     w.code = code.number();
-    w.count = count;
     w
 }
 
-fn stepped(
-    player: Player,
-    word: u64,
-    tags: &mut [u8],
-    data: &mut [u8],
-    history: &mut [u64],
-) -> Player {
-    let before = player.machine;
-    let answer = simulator::step(before, low_word(word), data, tags, history);
-    let code = answer.code;
-    let after = answer.machine;
-    answered(player, code, after, 0)
-}
-
-fn stepped_back(player: Player, tags: &mut [u8], data: &mut [u8], history: &[u64]) -> Player {
-    let before = player.machine;
-    let answer = simulator::step_back(before, data, tags, history);
-    let code = answer.code;
-    let after = answer.machine;
-    answered(player, code, after, 0)
-}
-
-fn run(
+fn ran(
     player: Player,
     count: u64,
     tags: &mut [u8],
@@ -186,10 +164,12 @@ fn run(
 ) -> Player {
     let before = player.machine;
     let n = at_most(count as usize, list.len());
-    let ran = simulator::run(before, &list[..n], data, tags, history);
-    let code = ran.code;
-    let after = ran.machine;
-    answered(player, code, after, ran.count)
+    let end = simulator::run(before, &list[..n], data, tags, history);
+    let code = end.code;
+    let machine = end.machine;
+    let mut w = answered(player, Answer { code, machine });
+    w.count = end.count;
+    w
 }
 
 // Steps, runs or steps back.
@@ -202,10 +182,14 @@ fn call(
     history: &mut [u64],
     list: &[u32],
 ) -> Player {
+    let before = player.machine;
     match kind {
-        kinds::WORD => stepped(player, number, tags, data, history),
-        kinds::RUN => run(player, number, tags, data, history, list),
-        _ => stepped_back(player, tags, data, history),
+        kinds::WORD => answered(
+            player,
+            simulator::step(before, low_word(number), data, tags, history),
+        ),
+        kinds::RUN => ran(player, number, tags, data, history, list),
+        _ => answered(player, simulator::step_back(before, data, tags, history)),
     }
 }
 

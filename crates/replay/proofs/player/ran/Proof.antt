@@ -1,10 +1,10 @@
--- `replay::player::run` is safe and ends. Assumes nothing.
+-- `replay::player::ran` is safe and ends. Assumes nothing.
 use borrow.Author.Needs.{needs}
 use mathlib.Core.Path.{sym}
 use native.Mathlib.Omega.{arith}
 use lib.Seq.{length-take-le}
-use Rattle.replay.proofs.player.run.Statement.{statement}
-use Rattle.replay.proofs.player.run.Tie as tie
+use Rattle.replay.proofs.player.ran.Statement.{statement}
+use Rattle.replay.proofs.player.ran.Tie as tie
 
 at-most-requires : tie.Need-at-most-requires
 at-most-requires c κs = search needs
@@ -30,8 +30,8 @@ same-length-3 c = search needs
 returns : tie.Need-returns
 returns c = search needs
 
-pub run-spec : {M : Type 1} → statement M
-run-spec =
+pub ran-spec : {M : Type 1} → statement M
+ran-spec =
     tie.close
     (tie.spec
     at-most-requires
