@@ -57,36 +57,21 @@ fn state_number(player: Player, kind: u64) -> u64 {
         kinds::NEXT => player.machine.cursor.next as u64,
         kinds::HELD => player.machine.cursor.held as u64,
         kinds::TAGS => player.tags as u64,
-        _ => player.data as u64,
+        kinds::DATA => player.data as u64,
+        _ => player.history as u64,
     }
 }
 
-// Puts the ten lines that every state has.
+// Puts the eleven lines that every state has.
 fn put_front(player: Player, out: &mut [u8], filled: usize) -> usize
     requires { ⌜ Filled filled (now out) ⌝ }
     ensures { λ r. ⌜ Filled r (now (out .exit)) ⌝ }
 {
     let mut n = filled;
     let mut kind = kinds::FRESH;
-    while kind <= kinds::DATA {
+    while kind <= kinds::HISTORY {
         n = put_one(out, n, kind, state_number(player, kind));
         kind += 1;
-    }
-    n
-}
-
-// Puts a line for each register that is not zero.
-fn put_registers(player: Player, out: &mut [u8], filled: usize) -> usize
-    requires { ⌜ Filled filled (now out) ⌝ }
-    ensures { λ r. ⌜ Filled r (now (out .exit)) ⌝ }
-{
-    let registers = player.machine.registers;
-    let mut n = filled;
-    let mut i = 0;
-    while i < 32 {
-        let v = registers.x[i];
-        n = put_unless_zero(out, n, kinds::X, i, v);
-        i += 1;
     }
     n
 }
@@ -106,23 +91,69 @@ fn put_bytes(bytes: &[u8], count: usize, kind: u64, out: &mut [u8], filled: usiz
     n
 }
 
-fn put_state(player: Player, tags: &[u8], data: &[u8], out: &mut [u8], filled: usize) -> usize
+// The same for words.
+fn put_words(words: &[u64], count: usize, kind: u64, out: &mut [u8], filled: usize) -> usize
     requires { ⌜ Filled filled (now out) ⌝ }
     ensures { λ r. ⌜ Filled r (now (out .exit)) ⌝ }
 {
-    let a = put_front(player, out, filled);
-    let b = put_registers(player, out, a);
-    let c = put_bytes(tags, player.tags, kinds::TAG, out, b);
-    put_bytes(data, player.data, kinds::BYTE, out, c)
+    let end = at_most(count, words.len());
+    let mut n = filled;
+    let mut i = 0;
+    while i < end {
+        n = put_unless_zero(out, n, kind, i, words[i]);
+        i += 1;
+    }
+    n
 }
 
-fn put_code(player: Player, tags: &[u8], data: &[u8], out: &mut [u8], filled: usize) -> usize
+fn put_state(
+    player: Player,
+    tags: &[u8],
+    data: &[u8],
+    history: &[u64],
+    out: &mut [u8],
+    filled: usize,
+) -> usize
     requires { ⌜ Filled filled (now out) ⌝ }
     ensures { λ r. ⌜ Filled r (now (out .exit)) ⌝ }
 {
-    let n = put_one(out, filled, kinds::CODE, player.code as u64);
+    let x = player.machine.registers.x;
+    let a = put_front(player, out, filled);
+    let b = put_words(&x, 32, kinds::X, out, a);
+    let c = put_bytes(tags, player.tags, kinds::TAG, out, b);
+    let d = put_bytes(data, player.data, kinds::BYTE, out, c);
+    put_words(history, player.history, kinds::LOG, out, d)
+}
+
+// Puts the code of a step, run or step back, and for a run how many words were done.
+fn put_code(player: Player, kind: u64, out: &mut [u8], filled: usize) -> usize
+    requires { ⌜ Filled filled (now out) ⌝ }
+    ensures { λ r. ⌜ Filled r (now (out .exit)) ⌝ }
+{
+    let code = player.code as u64;
+    if kind == kinds::RUN {
+        put_two(out, filled, kinds::RAN, code, player.count as u64)
+    } else {
+        put_one(out, filled, kinds::CODE, code)
+    }
+}
+
+// Puts the answer of a step, run or step back.
+fn put_call(
+    player: Player,
+    kind: u64,
+    tags: &[u8],
+    data: &[u8],
+    history: &[u64],
+    out: &mut [u8],
+    filled: usize,
+) -> usize
+    requires { ⌜ Filled filled (now out) ⌝ }
+    ensures { λ r. ⌜ Filled r (now (out .exit)) ⌝ }
+{
+    let n = put_code(player, kind, out, filled);
     if player.dump {
-        put_state(player, tags, data, out, n)
+        put_state(player, tags, data, history, out, n)
     } else {
         n
     }
@@ -190,6 +221,7 @@ pub(crate) fn put_answer(
     line: Line,
     tags: &[u8],
     data: &[u8],
+    history: &[u64],
     out: &mut [u8],
     filled: usize,
 ) -> usize
@@ -202,8 +234,10 @@ pub(crate) fn put_answer(
         return put_encoded(line, out, filled);
     }
     match kind {
-        kinds::WORD => put_code(player, tags, data, out, filled),
-        kinds::SHOW => put_state(player, tags, data, out, filled),
+        kinds::WORD | kinds::RUN | kinds::BACK => {
+            put_call(player, kind, tags, data, history, out, filled)
+        },
+        kinds::SHOW => put_state(player, tags, data, history, out, filled),
         kinds::DECODE => put_decoded(values[0], out, filled),
         kinds::CHOOSE => put_chosen(values, out, filled),
         kinds::DRAW => put_drawn(values[0], out, filled),

@@ -47,15 +47,20 @@ fn setup_shape(kind: u64) -> Shape {
         kinds::HELD => row(*b"held    ", 4, [16, 0, 0, 0, 0]),
         kinds::TAGS => row(*b"tags    ", 4, [8, 0, 0, 0, 0]),
         kinds::DATA => row(*b"data    ", 4, [8, 0, 0, 0, 0]),
+        kinds::HISTORY => row(*b"history ", 7, [8, 0, 0, 0, 0]),
         kinds::X => row(*b"x       ", 1, [2, 16, 0, 0, 0]),
         kinds::TAG => row(*b"tag     ", 3, [8, 2, 0, 0, 0]),
-        _ => row(*b"byte    ", 4, [8, 2, 0, 0, 0]),
+        kinds::BYTE => row(*b"byte    ", 4, [8, 2, 0, 0, 0]),
+        kinds::LOG => row(*b"log     ", 3, [8, 16, 0, 0, 0]),
+        _ => row(*b"list    ", 4, [8, 8, 0, 0, 0]),
     }
 }
 
 fn call_shape(kind: u64) -> Shape {
     match kind {
         kinds::WORD => row(*b"word    ", 4, [8, 0, 0, 0, 0]),
+        kinds::RUN => row(*b"run     ", 3, [8, 0, 0, 0, 0]),
+        kinds::BACK => row(*b"back    ", 4, [0, 0, 0, 0, 0]),
         kinds::DUMP => row(*b"dump    ", 4, [1, 0, 0, 0, 0]),
         kinds::SHOW => row(*b"show    ", 4, [0, 0, 0, 0, 0]),
         kinds::DECODE => row(*b"decode  ", 6, [8, 0, 0, 0, 0]),
@@ -84,6 +89,7 @@ fn form_shape(kind: u64) -> Shape {
 fn answer_shape(kind: u64) -> Shape {
     match kind {
         kinds::CODE => row(*b"code    ", 4, [1, 0, 0, 0, 0]),
+        kinds::RAN => row(*b"ran     ", 3, [1, 8, 0, 0, 0]),
         kinds::DECODED => row(*b"decoded ", 7, [1, 0, 0, 0, 0]),
         kinds::ENCODED => row(*b"encoded ", 7, [1, 8, 0, 0, 0]),
         kinds::CHOSEN => row(*b"chosen  ", 6, [1, 0, 0, 0, 0]),

@@ -2,9 +2,13 @@
 // "Replaying a script").
 use lines::Line;
 use player::MOST_DATA;
+use player::MOST_HISTORY;
+use player::MOST_LISTED;
 use player::MOST_TAGS;
+use player::Player;
 ghost use Prim.Native.Nat.{_≤_};
 ghost use lib.ListN.{length};
+ghost use Rattle.replay.specs.Buffer.{Filled};
 
 mod answers;
 mod forms;
@@ -42,8 +46,42 @@ fn write_bad(number: usize, out: &mut [u8])
     io::write_all(1, &out[..n]);
 }
 
+// What playing a line leaves: the player, and how many bytes of the buffer are filled.
+struct Played {
+    player: Player,
+    filled: usize,
+}
+
+fn play_line(
+    player: Player,
+    line: Line,
+    tags: &mut [u8],
+    data: &mut [u8],
+    history: &mut [u64],
+    list: &mut [u32],
+    out: &mut [u8],
+    filled: usize,
+) -> Played
+    requires { ⌜ Filled filled (now out) ⌝ }
+    ensures { λ r. ⌜ Filled (r .filled) (now (out .exit)) ⌝ }
+{
+    let after = player::after(player, line, tags, data, history, list);
+    let n = answers::put_answer(after, line, tags, data, history, out, filled);
+    Played {
+        player: after,
+        filled: n,
+    }
+}
+
 // Plays a script that has no wrong line.
-fn play(s: &[u8], tags: &mut [u8], data: &mut [u8], out: &mut [u8])
+fn play(
+    s: &[u8],
+    tags: &mut [u8],
+    data: &mut [u8],
+    history: &mut [u64],
+    list: &mut [u32],
+    out: &mut [u8],
+)
     requires { ⌜ 128 ≤ length (now out) ⌝ }
 {
     let mut player = player::fresh(0, true);
@@ -54,14 +92,23 @@ fn play(s: &[u8], tags: &mut [u8], data: &mut [u8], out: &mut [u8])
         if line.next <= at {
             break;
         }
-        player = player::after(player, line, tags, data);
-        filled = answers::put_answer(player, line, tags, data, out, filled);
+        let played = play_line(player, line, tags, data, history, list, out, filled);
+        let after = played.player;
+        player = after;
+        filled = played.filled;
         at = line.next;
     }
     io::write_all(1, &out[..filled]);
 }
 
-fn replay(input: &mut [u8], tags: &mut [u8], data: &mut [u8], out: &mut [u8])
+fn replay(
+    input: &mut [u8],
+    tags: &mut [u8],
+    data: &mut [u8],
+    history: &mut [u64],
+    list: &mut [u32],
+    out: &mut [u8],
+)
     requires { ⌜ 128 ≤ length (now out) ⌝ }
 {
     let n = io::read_full(0, input);
@@ -72,7 +119,7 @@ fn replay(input: &mut [u8], tags: &mut [u8], data: &mut [u8], out: &mut [u8])
     let script = &input[..n];
     let wrong = first_wrong_line(script);
     if wrong == 0 {
-        play(script, tags, data, out);
+        play(script, tags, data, history, list, out);
     } else {
         write_bad(wrong, out);
     }
@@ -83,15 +130,26 @@ fn lend(
     input: &mut [u8; ROOM],
     tags: &mut [u8; MOST_TAGS],
     data: &mut [u8; MOST_DATA],
+    history: &mut [u64; MOST_HISTORY],
+    list: &mut [u32; MOST_LISTED],
     out: &mut [u8; 65536],
 ) {
-    replay(input, tags, data, out);
+    replay(input, tags, data, history, list, out);
 }
 
 fn main() {
     let mut input = [0u8; ROOM];
     let mut tags = [0u8; MOST_TAGS];
     let mut data = [0u8; MOST_DATA];
+    let mut history = [0u64; MOST_HISTORY];
+    let mut list = [0u32; MOST_LISTED];
     let mut out = [0u8; 65536];
-    lend(&mut input, &mut tags, &mut data, &mut out);
+    lend(
+        &mut input,
+        &mut tags,
+        &mut data,
+        &mut history,
+        &mut list,
+        &mut out,
+    );
 }

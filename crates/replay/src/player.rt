@@ -6,24 +6,33 @@ use super::numbers::low_byte;
 use super::numbers::low_half;
 use super::numbers::low_word;
 use machine::Machine;
+use simulator::Answer;
 
-// The most tag bytes and data bytes that a script can give the machine.
+// The most tag bytes, data bytes and history words that a script can give the machine, and words that it can list.
 pub(crate) const MOST_TAGS: usize = 0x1_0010;
 
 pub(crate) const MOST_DATA: usize = 0x10_0100;
 
+pub(crate) const MOST_HISTORY: usize = 0x2010;
+
+pub(crate) const MOST_LISTED: usize = 0x1000;
+
 pub(crate) struct Player {
     pub(crate) machine: Machine,
-    // How many tag bytes and data bytes are the machine's.
+    // How many tag bytes, data bytes and history words are the machine's.
     pub(crate) tags: usize,
     pub(crate) data: usize,
-    // From these places on every byte is zero, so that a fresh start need not clear the memories whole.
+    pub(crate) history: usize,
+    // From these places on every byte or word is zero, so that a fresh start need not clear the memories whole.
     tags_end: usize,
     data_end: usize,
-    // Whether a state is written after a word.
+    history_end: usize,
+    list_end: usize,
+    // Whether a state is written after a call.
     pub(crate) dump: bool,
-    // The code of the last word.
+    // The code of the last call, and how many words the last run did.
     pub(crate) code: u32,
+    pub(crate) count: usize,
 }
 
 pub(crate) fn fresh(base: u64, dump: bool) -> Player {
@@ -31,10 +40,14 @@ pub(crate) fn fresh(base: u64, dump: bool) -> Player {
         machine: machine::fresh(base),
         tags: 0,
         data: 0,
+        history: 0,
         tags_end: 0,
         data_end: 0,
+        history_end: 0,
+        list_end: 0,
         dump,
         code: 0,
+        count: 0,
     }
 }
 
@@ -52,9 +65,38 @@ fn clear(bytes: &mut [u8], end: usize) {
     }
 }
 
-fn started_again(player: Player, base: u64, tags: &mut [u8], data: &mut [u8]) -> Player {
+// Sets the history words before end to zero.
+fn clear_history(history: &mut [u64], end: usize) {
+    let n = at_most(end, history.len());
+    let mut i = 0;
+    while i < n {
+        history[i] = 0;
+        i += 1;
+    }
+}
+
+// Sets the listed words before end to zero.
+fn clear_list(list: &mut [u32], end: usize) {
+    let n = at_most(end, list.len());
+    let mut i = 0;
+    while i < n {
+        list[i] = 0;
+        i += 1;
+    }
+}
+
+fn started_again(
+    player: Player,
+    base: u64,
+    tags: &mut [u8],
+    data: &mut [u8],
+    history: &mut [u64],
+    list: &mut [u32],
+) -> Player {
     clear(tags, player.tags_end);
     clear(data, player.data_end);
+    clear_history(history, player.history_end);
+    clear_list(list, player.list_end);
     fresh(base, player.dump)
 }
 
@@ -83,17 +125,96 @@ fn byte_stored(player: Player, index: u64, value: u64, data: &mut [u8]) -> Playe
     w
 }
 
-fn carried_out(player: Player, word: u64, tags: &mut [u8], data: &mut [u8]) -> Player {
-    let before = player.machine;
-    let n = at_most(player.data, data.len());
-    let m = at_most(player.tags, tags.len());
-    let answer = machine::execute(before, low_word(word), &mut data[..n], &mut tags[..m]);
+fn log_stored(player: Player, index: u64, value: u64, history: &mut [u64]) -> Player {
+    let mut w = player;
+    let i = index as usize;
+    if i < history.len() {
+        history[i] = value;
+        w.history_end = larger(player.history_end, i + 1);
+    }
+    w
+}
+
+fn list_stored(player: Player, index: u64, value: u64, list: &mut [u32]) -> Player {
+    let mut w = player;
+    let i = index as usize;
+    if i < list.len() {
+        list[i] = low_word(value);
+        w.list_end = larger(player.list_end, i + 1);
+    }
+    w
+}
+
+fn answered(player: Player, answer: Answer) -> Player {
+    let mut w = player;
     let code = answer.code;
-    let after = answer.machine;
-    let mut result = player;
-    result.machine = after;
-    result.code = code.number();
-    result
+    let machine = answer.machine;
+    w.machine = machine;
+    w.code = code.number();
+    w
+}
+
+fn ran(
+    player: Player,
+    count: u64,
+    tags: &mut [u8],
+    data: &mut [u8],
+    history: &mut [u64],
+    list: &[u32],
+) -> Player {
+    let before = player.machine;
+    let n = at_most(count as usize, list.len());
+    let end = simulator::run(before, &list[..n], data, tags, history);
+    let code = end.code;
+    let machine = end.machine;
+    let mut w = answered(player, Answer { code, machine });
+    w.count = end.count;
+    w
+}
+
+// Steps, runs or steps back.
+fn call(
+    player: Player,
+    kind: u64,
+    number: u64,
+    tags: &mut [u8],
+    data: &mut [u8],
+    history: &mut [u64],
+    list: &[u32],
+) -> Player {
+    let before = player.machine;
+    match kind {
+        kinds::WORD => answered(
+            player,
+            simulator::step(before, low_word(number), data, tags, history),
+        ),
+        kinds::RUN => ran(player, number, tags, data, history, list),
+        _ => answered(player, simulator::step_back(before, data, tags, history)),
+    }
+}
+
+// The player after a call, which is lent the parts of the memories that are the machine's.
+fn called(
+    player: Player,
+    kind: u64,
+    number: u64,
+    tags: &mut [u8],
+    data: &mut [u8],
+    history: &mut [u64],
+    list: &[u32],
+) -> Player {
+    let t = at_most(player.tags, tags.len());
+    let d = at_most(player.data, data.len());
+    let h = at_most(player.history, history.len());
+    call(
+        player,
+        kind,
+        number,
+        &mut tags[..t],
+        &mut data[..d],
+        &mut history[..h],
+        list,
+    )
 }
 
 fn with_register(player: Player, number: u64, value: u64) -> Player {
@@ -118,6 +239,13 @@ fn with_data(player: Player, n: usize) -> Player {
     let mut w = player;
     w.data = n;
     w.data_end = larger(player.data_end, n);
+    w
+}
+
+fn with_history(player: Player, n: usize) -> Player {
+    let mut w = player;
+    w.history = n;
+    w.history_end = larger(player.history_end, n);
     w
 }
 
@@ -174,18 +302,30 @@ fn with_setting(player: Player, kind: u64, v: u64) -> Player {
 }
 
 // The player after a line.
-pub(crate) fn after(player: Player, line: Line, tags: &mut [u8], data: &mut [u8]) -> Player {
+pub(crate) fn after(
+    player: Player,
+    line: Line,
+    tags: &mut [u8],
+    data: &mut [u8],
+    history: &mut [u64],
+    list: &mut [u32],
+) -> Player {
     let kind = line.kind;
     let a = line.values[0];
     let b = line.values[1];
     match kind {
-        kinds::FRESH => started_again(player, a, tags, data),
+        kinds::FRESH => started_again(player, a, tags, data, history, list),
         kinds::TAGS => with_tags(player, a as usize),
         kinds::DATA => with_data(player, a as usize),
+        kinds::HISTORY => with_history(player, a as usize),
         kinds::X => with_register(player, a, b),
         kinds::TAG => tag_stored(player, a, b, tags),
         kinds::BYTE => byte_stored(player, a, b, data),
-        kinds::WORD => carried_out(player, a, tags, data),
+        kinds::LOG => log_stored(player, a, b, history),
+        kinds::LIST => list_stored(player, a, b, list),
+        kinds::WORD | kinds::RUN | kinds::BACK => {
+            called(player, kind, a, tags, data, history, list)
+        },
         kinds::NZCV | kinds::RGSR | kinds::SEED => with_status(player, kind, a),
         kinds::NEXT | kinds::HELD => with_cursor(player, kind, a as usize),
         _ => with_setting(player, kind, a),

@@ -5,6 +5,8 @@ use super::lines::separator;
 use super::lines::shape_of;
 use super::numbers::at_most;
 use super::player::MOST_DATA;
+use super::player::MOST_HISTORY;
+use super::player::MOST_LISTED;
 use super::player::MOST_TAGS;
 use text::Hex;
 
@@ -97,9 +99,13 @@ fn is_allowed(kind: u64, first: u64) -> bool {
         kinds::ACCESS | kinds::DUMP => first <= 1,
         kinds::TAGS => first <= MOST_TAGS as u64,
         kinds::DATA => first <= MOST_DATA as u64,
+        kinds::HISTORY => first <= MOST_HISTORY as u64,
         kinds::X => first <= 0x1f,
         kinds::TAG => first < MOST_TAGS as u64,
         kinds::BYTE => first < MOST_DATA as u64,
+        kinds::LOG => first < MOST_HISTORY as u64,
+        kinds::LIST => first < MOST_LISTED as u64,
+        kinds::RUN => first <= MOST_LISTED as u64,
         kinds::STG | kinds::STZG | kinds::ST2G | kinds::STZ2G | kinds::STGP => is_mode(first),
         _ => true,
     }

@@ -10,10 +10,10 @@ use Rattle.replay.proofs.play.Statement.{statement}
 use Rattle.replay.proofs.play.Tie as tie
 
 abbrev Inv-loop : tie.InvT-loop
-Inv-loop s tags₀ data₀ out₀ player₀ filled₀ at₀ tags «data» out player filled at = (Filled filled out) × (length tags ≡ length tags₀) × (length «data» ≡ length data₀) × (length out ≡ length out₀)
+Inv-loop s tags₀ data₀ history₀ list₀ out₀ player₀ filled₀ at₀ tags «data» history list out player filled at = (Filled filled out) × (length tags ≡ length tags₀) × (length «data» ≡ length data₀) × (length history ≡ length history₀) × (length list ≡ length list₀) × (length out ≡ length out₀)
 
 abbrev μ-loop : tie.MeasureT-loop
-μ-loop s tags₀ data₀ out₀ player₀ filled₀ at₀ tags «data» out player filled at = 2 ^ 64 - at
+μ-loop s tags₀ data₀ history₀ list₀ out₀ player₀ filled₀ at₀ tags «data» history list out player filled at = 2 ^ 64 - at
 
 fresh-requires : tie.Need-fresh-requires Inv-loop μ-loop
 fresh-requires c κs = search needs
@@ -24,14 +24,11 @@ loop-holds c = search needs
 read-requires : tie.Need-read-requires Inv-loop μ-loop
 read-requires c κs = search needs
 
-after-requires : tie.Need-after-requires Inv-loop μ-loop
-after-requires c κs = search needs
-
-put-answer-requires : tie.Need-put-answer-requires Inv-loop μ-loop
-put-answer-requires c κs = search needs
+play-line-requires : tie.Need-play-line-requires Inv-loop μ-loop
+play-line-requires c κs = search needs
 
 loop-less : tie.Need-loop-less Inv-loop μ-loop
-loop-less c = search needs
+loop-less c = omega (arith, c .before .before .before .before .before .before .before .before .before .before .before .before .before .before .before .before .before .before .struct-known)
 
 loop-again : tie.Need-loop-again Inv-loop μ-loop
 loop-again c = search needs
@@ -54,6 +51,12 @@ same-length-2 c = search needs
 same-length-3 : tie.Need-same-length-3 Inv-loop μ-loop
 same-length-3 c = search needs
 
+same-length-4 : tie.Need-same-length-4 Inv-loop μ-loop
+same-length-4 c = search needs
+
+same-length-5 : tie.Need-same-length-5 Inv-loop μ-loop
+same-length-5 c = search needs
+
 returns : tie.Need-returns Inv-loop μ-loop
 returns c = search needs
 
@@ -66,8 +69,7 @@ play-spec =
     fresh-requires
     loop-holds
     read-requires
-    after-requires
-    put-answer-requires
+    play-line-requires
     loop-less
     loop-again
     slice-reshare-prefix-write-all
@@ -76,4 +78,6 @@ play-spec =
     same-length
     same-length-2
     same-length-3
+    same-length-4
+    same-length-5
     returns)

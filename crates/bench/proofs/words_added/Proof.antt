@@ -1,0 +1,51 @@
+-- `bench::words_added` is safe and ends. Assumes nothing.
+use borrow.Author.Needs.{needs}
+use Prim.Native.Nat.{_-_}
+use lib.ListN.{length}
+use Rattle.bench.proofs.words_added.Statement.{statement}
+use Rattle.bench.proofs.words_added.Tie as tie
+
+abbrev Inv-loop : tie.InvT-loop
+Inv-loop sum words s₀ i₀ s i = Unit
+
+abbrev μ-loop : tie.MeasureT-loop
+μ-loop sum words s₀ i₀ s i = length words - i
+
+loop-holds : tie.Need-loop-holds Inv-loop μ-loop
+loop-holds c = search needs
+
+mul-added : tie.Need-mul-added Inv-loop μ-loop
+mul-added c = search needs
+
+shared-slice-read-added : tie.Need-shared-slice-read-added Inv-loop μ-loop
+shared-slice-read-added c = search needs
+
+added-requires : tie.Need-added-requires Inv-loop μ-loop
+added-requires c κs = search needs
+
+add-i : tie.Need-add-i Inv-loop μ-loop
+add-i c = search needs
+
+loop-less : tie.Need-loop-less Inv-loop μ-loop
+loop-less c = search needs
+
+loop-again : tie.Need-loop-again Inv-loop μ-loop
+loop-again c = search needs
+
+returns : tie.Need-returns Inv-loop μ-loop
+returns c = search needs
+
+pub words-added-spec : {M : Type 1} → statement M
+words-added-spec =
+    tie.close
+    (tie.spec
+    Inv-loop
+    μ-loop
+    loop-holds
+    mul-added
+    shared-slice-read-added
+    added-requires
+    add-i
+    loop-less
+    loop-again
+    returns)
