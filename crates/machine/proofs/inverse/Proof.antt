@@ -31,7 +31,7 @@ add-old-tag c = search needs
 old-tag-requires-2 : tie.Need-old-tag-requires-2
 old-tag-requires-2 c κs =
     let start = c .before .before .before .before .before in
-    λ h. omega (arith, eqb-true (start .args .e .granules) 2 h, start .pre .0 .inside)
+    λ h. omega (arith, eqb-true (start .args .e .granules) _ h, start .pre .0 .inside)
 
 returns : tie.Need-returns
 returns c =
