@@ -177,11 +177,9 @@ pub fn is_malformed(part: &[u64], granules: usize) -> bool
     requires { ⌜ 8 ≤ length (now part) ⌝ }
     ensures { λ r. ⌜ r ≡ malformed granules (now (part .entry)) ⌝ }
 {
-    is_out_of_range(part)
-        | (is_gap_used(part)
-            | (is_stray_value(part)
-                | (is_stray_tag(part)
-                    | (is_stray_data(part) | (is_data_of_none(part) | is_beyond(part, granules))))))
+    let misplaced = is_data_of_none(part) | is_beyond(part, granules);
+    let stray = is_stray_value(part) | (is_stray_tag(part) | (is_stray_data(part) | misplaced));
+    is_out_of_range(part) | (is_gap_used(part) | stray)
 }
 
 fn status_in(part: &[u64]) -> Status
