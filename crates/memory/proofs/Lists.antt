@@ -3,7 +3,7 @@ use Prim.Native.Nat.{ℕ, zero, suc, _+_, _-_, _≤_, zero-le}
 use mathlib.Core.Path.{_≡_, refl, _∙_}
 use mathlib.Core.List.{List, [], _∷_, _++_, append-nil}
 use native.Mathlib.Nat.{add-zero, zero-add, add-suc, suc-add, le-refl, not-suc-le-zero, le-of-suc-le-suc}
-use lib.ListN.{length, take, drop, set, replicate, length-drop, drop-of-length-le, length-replicate, replicate-append-replicate}
+use lib.ListN.{length, take, drop, set, length-drop, drop-of-length-le}
 use lib.Seq.{sets, take-all}
 
 module _ {A : Type 0} where
@@ -38,10 +38,6 @@ module _ {A : Type 0} where
       → ys ≡ sets (take (length xs - n) (drop n xs)) 0 vs
       → take n xs ++ (ys ++ drop (length xs - n) (drop n xs)) ≡ sets l 0 (us ++ vs)
   back-append n l us vs xs ys e f g = back-part n xs ys vs g ∙ rw (f, sets-append us l 0 vs, zero-add, e)
-
-  -- a value stored once more
-  pub sets-more : (l : List A) (i : ℕ) (v : A) → set (sets l 0 (replicate i v)) i v ≡ sets l 0 (replicate (i + 1) v)
-  sets-more l i v = rw (← replicate-append-replicate i 1 v, sets-append (replicate i v) l 0 (v ∷ []), zero-add, length-replicate)
 
   -- a run taken back by storing what was there, and perhaps more of it
   pub sets-back : (i m : ℕ) (l vs : List A) → length vs ≤ m → sets (sets l i vs) i (take m (drop i l)) ≡ l

@@ -74,10 +74,9 @@ pub fn zero(part: &mut [u8], granules: usize)
     requires { ⌜ 16 * granules ≤ length (now part) ⌝ }
     ensures { λ _. ⌜ now (part .exit) ≡ sets (now (part .entry)) 0 (zeroBytes granules) ⌝ }
 {
-    let n = 16 * granules;
     let mut i = 0;
-    while i < n {
-        part[i] = 0;
+    while i < granules {
+        store_pair(&mut part[16 * i..], 0, 0);
         i += 1;
     }
 }

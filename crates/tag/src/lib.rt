@@ -1,7 +1,7 @@
 // Tag choice, and the random bits of IRG.
 ghost use mathlib.Core.Path.{_≡_};
 ghost use Prim.Native.Nat.{_<_};
-ghost use Rattle.tag.specs.RandomBits.{drawn, randomBit};
+ghost use Rattle.tag.specs.RandomBits.{drawn};
 ghost use Rattle.tag.specs.TagChoice.{chosen, masked};
 
 // Four random bits, and the seed after them.
@@ -45,32 +45,14 @@ pub fn choose(start: u8, offset: u8, mask: u16) -> u8
     tag
 }
 
-// The random bit that a seed gives.
-fn random_bit(seed: u64) -> u64
-    ensures { λ r. ⌜ r ≡ randomBit seed ⌝ }
-{
-    (bits::field(seed, 5, 1)
-        + bits::field(seed, 3, 1)
-        + bits::field(seed, 2, 1)
-        + bits::field(seed, 0, 1))
-        % 2
-}
-
-// Draws four random bits, lowest first.
+// Draws four random bits, lowest first, all at once: none of them has come down yet to the seed bits that are added.
 pub fn draw(seed: u16) -> Drawn
     ensures { λ r. ⌜ r ≡ drawn seed ⌝ }
 {
-    let mut s = seed as u64;
-    let mut taken: u64 = 0;
-    let mut i: u64 = 0;
-    while i < 4 {
-        let bit = random_bit(s);
-        s = bits::put(s >> 1, 15, 1, bit);
-        taken = bits::put(taken, i, 1, bit);
-        i += 1;
-    }
+    let s = seed as u64;
+    let four = bits::field((s >> 5) ^ (s >> 3) ^ (s >> 2) ^ s, 0, 4);
     Drawn {
-        bits: taken as u8,
-        seed: s as u16,
+        bits: four as u8,
+        seed: bits::put(s >> 4, 12, 4, four) as u16,
     }
 }

@@ -1,28 +1,44 @@
--- `memory::zero` meets its contract. The loop's invariant: as many zeros are stored as bytes are passed. The measure is
--- what is left of them. Assumes nothing.
-use Prim.Native.Nat.{_-_, _*_, _≤_}
+-- `memory::zero` meets its contract. The loop's invariant: as many granules are zeroed as passed. The measure is what is left of
+-- them. Assumes nothing.
+use borrow.Author.Needs.{needs}
+use Prim.Native.Nat.{ℕ, _+_, _-_, _*_, _≤_}
 use mathlib.Core.Path.{_≡_, refl}
 use native.Mathlib.Omega.{arith}
-use lib.ListN.{replicate}
+use lib.ListN.{length, length-replicate, length-take, length-drop, replicate-append-replicate}
 use lib.Seq.{sets, length-sets}
-use Rattle.memory.proofs.Lists.{sets-more}
+use Rattle.bits.specs.LittleEndian.{lowBytes}
+use Rattle.memory.specs.Stores.{pairBytes, zeroBytes}
+use Rattle.memory.proofs.Lists.{back-append}
 use Rattle.memory.proofs.zero.Statement.{statement}
 use Rattle.memory.proofs.zero.Tie as tie
 
 abbrev Inv-loop : tie.InvT-loop
-Inv-loop part₀ granules n i₀ part i = (i ≤ n) × (part ≡ sets part₀ 0 (replicate i 0))
+Inv-loop part₀ granules i₀ part i = (i ≤ granules) × (part ≡ sets part₀ 0 (zeroBytes i))
 
 abbrev μ-loop : tie.MeasureT-loop
-μ-loop part₀ granules n i₀ part i = n - i
-
-mul-n : tie.Need-mul-n Inv-loop μ-loop
-mul-n c = omega arith
+μ-loop part₀ granules i₀ part i = granules - i
 
 loop-holds : tie.Need-loop-holds Inv-loop μ-loop
 loop-holds c = (omega arith, refl)
 
-slice-write-part : tie.Need-slice-write-part Inv-loop μ-loop
-slice-write-part c = rw (c .before .loop .inv .1, length-sets) (omega arith)
+-- a granule that is not passed lies in the part
+room : (c : tie.In-loop Inv-loop μ-loop) → 16 * c .before .loop .i + 16 ≤ length (c .before .loop .part)
+room c = rw (c .before .loop .inv .1, length-sets) (omega arith)
+
+mul-store-pair : tie.Need-mul-store-pair Inv-loop μ-loop
+mul-store-pair c = omega arith
+
+sub-store-pair : tie.Need-sub-store-pair Inv-loop μ-loop
+sub-store-pair c = omega (arith, room c)
+
+part-store-pair-start : tie.Need-part-store-pair-start Inv-loop μ-loop
+part-store-pair-start c = omega (arith, room c)
+
+part-store-pair-end : tie.Need-part-store-pair-end Inv-loop μ-loop
+part-store-pair-end c = search needs
+
+store-pair-requires : tie.Need-store-pair-requires Inv-loop μ-loop
+store-pair-requires c κs = simp (length-take, length-drop) (omega (arith, room (c .before)))
 
 add-i : tie.Need-add-i Inv-loop μ-loop
 add-i c = omega arith
@@ -31,14 +47,23 @@ loop-less : tie.Need-loop-less Inv-loop μ-loop
 loop-less c = omega arith
 
 loop-again : tie.Need-loop-again Inv-loop μ-loop
+unfolding lowBytes
 loop-again c =
-    (omega arith, rw (c .before .loop .inv .1) (sets-more (c .before .before .args .part .now) (c .before .loop .i) 0))
+    let l = c .before .before .before .before .before .loop in
+    let stored = c .before .before .store-pair in
+    let old = c .before .before .before .before .before .before .before .args .part .now in
+    let e : 16 * (l .i + 1) ≡ 16 * l .i + 16 = omega arith in (
+      omega arith,
+      rw (e, ← replicate-append-replicate {A = ℕ} (16 * l .i) 16 0)
+          (back-append (16 * l .i) old (zeroBytes (l .i)) (pairBytes 0 0) (l .part) (stored .last .0) (length-replicate _ 0) (l .inv .1)
+          (stored .ensures)),
+    )
 
 same-length : tie.Need-same-length Inv-loop μ-loop
 same-length c = rw (c .before .loop .inv .1, length-sets)
 
 returns : tie.Need-returns Inv-loop μ-loop
-returns c = let e : c .before .loop .i ≡ 16 * c .before .before .args .granules = omega arith in rw (c .before .loop .inv .1, e)
+returns c = let e : c .before .loop .i ≡ c .before .before .before .args .granules = omega arith in rw (c .before .loop .inv .1, e)
 
 pub zero-spec : {M : Type 1} → statement M
 zero-spec =
@@ -46,9 +71,12 @@ zero-spec =
     (tie.spec
     Inv-loop
     μ-loop
-    mul-n
     loop-holds
-    slice-write-part
+    mul-store-pair
+    sub-store-pair
+    part-store-pair-start
+    part-store-pair-end
+    store-pair-requires
     add-i
     loop-less
     loop-again
