@@ -1,15 +1,14 @@
 -- A run taken word by word. Assumes nothing.
 use Prim.Native.Nat.{ℕ, suc, _+_, _≤_, _<_}
 use mathlib.Core.Bool.{true}
-use mathlib.Core.List.{List, [], _∷_}
+use mathlib.Core.List.{List, _∷_}
 use mathlib.Core.Path.{_≡_, refl, sym, ap, _∙_}
 use native.Mathlib.Numerals.{add-one}
-use native.Mathlib.Omega.{arith}
 use lib.ListN.{length, drop, getD, drop-of-length-le}
 use lib.Seq.{drop-cons}
 use Rattle.machine.specs.declared.Code.{Code}
 use Rattle.machine.specs.declared.Code.the-variants.{Done}
-use Rattle.simulator.specs.Calls.{Left, left, refused, done, inOrder}
+use Rattle.simulator.specs.Calls.{left, refused, done, inOrder}
 use Rattle.simulator.specs.Simulation.{Simulation, wellFormed}
 use Rattle.simulator.specs.Steps.{stepOf}
 use Rattle.simulator.proofs.Kept.{Kept, step-kept, plus, plus-zero, run-ends, run-more, run-stops}

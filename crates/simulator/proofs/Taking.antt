@@ -1,34 +1,23 @@
 -- A word judged, recorded and applied is a step. Assumes nothing.
 use Prim.Native.Nat.{ℕ, _*_}
-use mathlib.Core.Bool.{Bool, true, false, cond}
-use mathlib.Core.Path.{_≡_, refl, sym, ap, _∙_, subst}
-use mathlib.Core.List.{List}
+use mathlib.Core.Bool.{true}
+use mathlib.Core.Path.{_≡_, refl}
 use lib.ListN.{length}
-use Rattle.isa.specs.declared.Decoded.{Decoded}
 use Rattle.isa.specs.Decoding.{decodeOf}
-use Rattle.machine.specs.declared.Code.{Code}
 use Rattle.machine.specs.declared.Code.the-variants.{Done}
-use Rattle.machine.specs.declared.Effect.{Effect}
 use Rattle.machine.specs.declared.Judged.{Judged}
 use Rattle.machine.specs.declared.Judged.the-variants.{Refused, Accepted}
-use Rattle.machine.specs.Codes.{isDone}
 use Rattle.machine.specs.Effects.{applied}
-use Rattle.machine.specs.Inverses.{inverseOn}
 use Rattle.machine.specs.Plans.{planOf, planOutcome, JudgedWithin}
 use Rattle.machine.specs.Setup.{sound}
 use Rattle.machine.specs.State.{State}
-use Rattle.machine.specs.Words.{Outcome, wordOutcome, ifDone, codeOf, carriedOut as performed}
+use Rattle.machine.specs.Words.{wordOutcome}
 use Rattle.machine.proofs.Judgement.{fits}
 use Rattle.machine.proofs.Outcomes.{plan-outcome}
 use Rattle.machine.proofs.Setup.{state-sized}
 use Rattle.machine.proofs.Within.{plan-within}
 use Rattle.history.specs.History.{capacity}
-use Rattle.history.specs.Records.{wordsOf}
-use Rattle.history.specs.Recording.{recordOf}
-use Rattle.history.specs.Ring.{pushed}
-use Rattle.history.specs.Undo.{entryWith}
 use Rattle.history.proofs.Recorded.{plan-refusal, recorded, storable}
-use Rattle.simulator.specs.Calls.{Out, refused, done, whenDone}
 use Rattle.simulator.specs.Simulation.{Simulation, wellFormed}
 use Rattle.simulator.specs.Steps.{stepOf}
 use Rattle.simulator.specs.Taking.{Placed, JudgedStorable, carriedOut}

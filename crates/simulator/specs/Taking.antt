@@ -6,7 +6,6 @@ use mathlib.Core.Path.{_≡_}
 use lib.ListN.{length}
 use Rattle.machine.specs.declared.Code.the-variants.{BadRecord}
 use Rattle.machine.specs.declared.Cursor.{Cursor}
-use Rattle.machine.specs.declared.Effect.{Effect}
 use Rattle.machine.specs.declared.Judged.{Judged}
 use Rattle.machine.specs.declared.Judged.the-variants.{Accepted}
 use Rattle.machine.specs.declared.Judged.the-variants.{Refused as NoEffect}

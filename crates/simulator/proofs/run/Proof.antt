@@ -1,8 +1,7 @@
 -- `simulator::run` meets its contract. Assumes nothing.
 use borrow.Author.Needs.{needs}
-use mathlib.Core.Bool.{true, false}
-use mathlib.Core.Path.{_≡_, sym, _∙_}
-use Rattle.simulator.specs.Simulation.{simulation, wellFormed}
+use mathlib.Core.Path.{sym, _∙_}
+use Rattle.simulator.specs.Simulation.{wellFormed}
 use Rattle.simulator.specs.Steps.{runOf}
 use Rattle.simulator.proofs.run.Statement.{statement}
 use Rattle.simulator.proofs.run.Tie as tie

@@ -1,10 +1,8 @@
 -- `simulator::take` meets its contract. Assumes nothing.
 use borrow.Author.Needs.{needs}
-use mathlib.Core.Path.{_≡_, sym, ap, _∙_}
-use lib.ListN.{length}
+use mathlib.Core.Path.{_≡_, ap, _∙_}
 use Rattle.machine.specs.declared.Judged.{Judged}
 use Rattle.machine.proofs.Judgement.{fits}
-use Rattle.machine.proofs.Setup.{state-sized}
 use Rattle.simulator.specs.Simulation.{Simulation}
 use Rattle.simulator.specs.Steps.{stepOf}
 use Rattle.simulator.specs.Taking.{carriedOut, gathered}

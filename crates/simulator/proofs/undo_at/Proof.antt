@@ -11,7 +11,6 @@ use Rattle.machine.specs.Effects.{applied}
 use Rattle.machine.specs.State.{State, withMemory}
 use Rattle.history.specs.BadRecords.{malformed}
 use Rattle.history.specs.Records.{entryIn}
-use Rattle.history.specs.Recording.{restored}
 use Rattle.history.specs.Undo.{undoing}
 use Rattle.history.proofs.Restored.{restored-applied, undoing-within}
 use Rattle.simulator.specs.Calls.{left}
