@@ -1,3 +1,4 @@
 -- Laws of the definitions, for the proofs here and in the crates above.
+pub mod Bounds
 pub mod Fields
 pub mod LittleEndian

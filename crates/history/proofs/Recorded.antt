@@ -1,16 +1,16 @@
 -- The record that an accepted word leaves is the inverse of the word's effect, it is well formed, and what it holds put back gives
 -- the old state. Assumes nothing.
-use Prim.Native.Nat.{ℕ, _+_, _*_, _≤_, _<_}
+use Prim.Native.Nat.{ℕ, _+_, _*_, _≤_}
 use mathlib.Core.Bool.{Bool, true, false, cond, _&&_, _||_, false≢true}
 use mathlib.Core.List.{List}
 use mathlib.Core.Path.{_≡_, refl, ap, sym, subst, _∙_}
 use native.Mathlib.Omega.{arith}
 use lib.Dec.{eqb, ltb}
-use lib.ListN.{length, drop, getD}
+use lib.ListN.{length, drop}
 use lib.Seq.{length-sets, drop-drop}
 use borrow.Author.Tests.{eqb-true, le-ltb}
+use Rattle.bits.proofs.Bounds.{cond-lt}
 use Rattle.isa.specs.declared.Mode.{Mode}
-use Rattle.isa.specs.declared.Mode.the-variants.{Post, Pre, Offset}
 use Rattle.isa.specs.declared.TwoSourceOp.the-variants.{Subp, Subps, Irg, Gmi}
 use Rattle.isa.specs.declared.TagStoreOp.{TagStoreOp}
 use Rattle.isa.specs.declared.TagStoreOp.the-variants.{Stg, Stzg, St2g, Stz2g}
@@ -32,12 +32,12 @@ use Rattle.machine.specs.State.{State, Typed}
 use Rattle.machine.specs.Setup.{sound}
 use Rattle.machine.specs.Registers.{xOrSp}
 use Rattle.machine.specs.Codes.{isDone}
-use Rattle.machine.specs.Accesses.{addressOf, spMisaligned, misaligned}
+use Rattle.machine.specs.Accesses.{addressOf, writebackTo, spMisaligned, misaligned}
 use Rattle.machine.specs.TagStores.{isPair}
 use Rattle.machine.specs.Effects.{applied, Within}
 use Rattle.machine.specs.Inverses.{savedWords, oldData, inverseOn}
 use Rattle.machine.specs.Words.{Outcome, wordOutcome}
-use Rattle.machine.specs.Plans.{registerEffect, storeEffect, storePlan, writebackTo, zeroing, placeOf, accept, formPlan, planOf, planOutcome, decodedFits, JudgedWithin}
+use Rattle.machine.specs.Plans.{registerEffect, storeEffect, storePlan, zeroing, placeOf, accept, formPlan, planOf, planOutcome, decodedFits, JudgedWithin}
 use Rattle.machine.proofs.Setup.{state-sized, state-status}
 use Rattle.machine.proofs.Within.{plan-within}
 use Rattle.machine.proofs.Ranges.{plan-register}
@@ -46,7 +46,7 @@ use Rattle.machine.proofs.Judgement.{fits}
 use Rattle.machine.proofs.Outcomes.{plan-outcome}
 use Rattle.history.specs.Records.{Entry, wordsOf, entryIn}
 use Rattle.history.specs.BadRecords.{notZero, valueNotZero, tagsNotZero, dataNotZero, dataOfNone, malformed}
-use Rattle.history.specs.Recording.{writebackTarget, zeroes, entryFor, entryOf, recordOf, restored}
+use Rattle.history.specs.Recording.{zeroes, entryFor, entryOf, recordOf, restored}
 use Rattle.history.specs.Undo.{entryWith, undoing, Storable}
 use Rattle.history.proofs.Packing.{Fits, entry-back, gaps-zero}
 use Rattle.history.proofs.Restored.{restored-applied}
@@ -57,10 +57,6 @@ pub record Restores (r : List ℕ) (after before : State) : Type 0 where
   pub well : malformed (length (after .tags)) r ≡ false
   pub back : restored (entryIn r) after ≡ before
 
-cond-lt : (t : Bool) (a b m : ℕ) → a < m → b < m → cond t a b < m
-cond-lt true a b m h k = h
-cond-lt false a b m h k = k
-
 -- the old data is saved or not
 abbrev Saves : Change → Bool → Type 0
 Saves change saves = (n : ℕ) (part : List ℕ) → oldData change n part ≡ cond saves (savedWords n part) Keep
@@ -70,11 +66,6 @@ zeroing-data Stg n part = refl
 zeroing-data Stzg n part = refl
 zeroing-data St2g n part = refl
 zeroing-data Stz2g n part = refl
-
-same-target : (mode : Mode) (n : ℕ) → writebackTo mode n ≡ writebackTarget mode n
-same-target Post n = refl
-same-target Pre n = refl
-same-target Offset n = refl
 
 -- what is judged: a refusal's code is not DONE, and P holds of the effect of an accepted word
 abbrev Judges : (Effect → Type 0) → Judged → Type 0
@@ -118,9 +109,9 @@ module _ (s : State) where
         record {
           register = h .register;
           granules = h .within .few;
-          saved = cond-lt saves 1 0 2 (omega arith) (omega arith);
-          tag = cond-lt (ltb 0 (e .granules)) (getD (s .tags) (e .first) 0) 0 256 (typed .tags (e .first)) (omega arith);
-          second = cond-lt (ltb 1 (e .granules)) (getD (s .tags) (e .first + 1) 0) 0 256 (typed .tags (e .first + 1)) (omega arith);
+          saved = cond-lt saves (omega arith) (omega arith);
+          tag = cond-lt (ltb 0 (e .granules)) (typed .tags (e .first)) (omega arith);
+          second = cond-lt (ltb 1 (e .granules)) (typed .tags (e .first + 1)) (omega arith);
           nzcv = nzcv;
           rgsr = rgsr;
           seed = typed .seed;
@@ -190,10 +181,10 @@ module _ (s : State) where
       go false false false p q r = rw (p, q, r) refl
 
   stores : (mode : Mode) (n amount : ℕ) (pair : Bool) (tag : ℕ) (change : Change) (saves : Bool) → Saves change saves
-      → Judges (λ e. Packs e (wordsOf (entryFor (writebackTarget mode n) (named pair) (indexOf (s .settings .base) (address mode n amount)) saves s)))
+      → Judges (λ e. Packs e (wordsOf (entryFor (writebackTo mode n) (named pair) (indexOf (s .settings .base) (address mode n amount)) saves s)))
       (storePlan (s .settings) x status g mode n amount pair tag change)
   stores mode n amount pair tag change saves p =
-      rw (← same-target mode n) (access _ n _ (address mode n amount) pair _ (store-packs mode n amount tag change _ pair saves p))
+      access _ n _ (address mode n amount) pair _ (store-packs mode n amount tag change _ pair saves p)
 
   form-packs : (f : Form) → Judges (λ e. Packs e (wordsOf (entryOf f s))) (formPlan (s .settings) x status (s .tags) f)
   form-packs (AddSub op d n amount offset) = register-packs d _ _

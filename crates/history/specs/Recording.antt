@@ -6,8 +6,6 @@ use lib.Dec.{eqb, ltb}
 use lib.ListN.{drop, getD}
 use lib.Seq.{sets}
 use Rattle.bits.specs.LittleEndian.{wordOf}
-use Rattle.isa.specs.declared.Mode.{Mode}
-use Rattle.isa.specs.declared.Mode.the-variants.{Post, Pre, Offset}
 use Rattle.isa.specs.declared.TwoSourceOp.{TwoSourceOp}
 use Rattle.isa.specs.declared.TwoSourceOp.the-variants.{Subp, Subps, Irg, Gmi}
 use Rattle.isa.specs.declared.TagStoreOp.{TagStoreOp}
@@ -20,7 +18,7 @@ use Rattle.memory.specs.Addresses.{indexOf, named}
 use Rattle.memory.specs.Stores.{savedBytes, tagBytes}
 use Rattle.machine.specs.State.{State, stateOf}
 use Rattle.machine.specs.Registers.{xOrSp, orNone, written}
-use Rattle.machine.specs.Accesses.{addressOf}
+use Rattle.machine.specs.Accesses.{addressOf, writebackTo}
 use Rattle.machine.specs.TagStores.{isPair}
 use Rattle.history.specs.Records.{Entry, wordsOf}
 
@@ -32,17 +30,12 @@ twoSourceTarget Subps d = orNone d
 twoSourceTarget Irg d = d
 twoSourceTarget Gmi d = orNone d
 
-abbrev pub writebackTarget : Mode → ℕ → ℕ
-writebackTarget Post n = n
-writebackTarget Pre n = n
-writebackTarget Offset n = 32
-
 abbrev pub target : Form → ℕ
 target (AddSub op d n amount offset) = d
 target (TwoSource op d n m) = twoSourceTarget op d
 target (Ldg t n amount) = orNone t
-target (TagStore op mode t n amount) = writebackTarget mode n
-target (Stgp mode t t2 n amount) = writebackTarget mode n
+target (TagStore op mode t n amount) = writebackTo mode n
+target (Stgp mode t t2 n amount) = writebackTo mode n
 
 -- LDG records no granules; stores record theirs
 abbrev pub granulesOf : Form → ℕ

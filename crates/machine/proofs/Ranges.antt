@@ -7,7 +7,7 @@ use native.Mathlib.Omega.{arith}
 use lib.Dec.{eqb}
 use lib.ListN.{length}
 use Rattle.bits.proofs.Fields.{field-lt}
-use Rattle.tag.proofs.TagChoice.{cond-lt}
+use Rattle.bits.proofs.Bounds.{cond-lt}
 use Rattle.isa.specs.declared.Mode.{Mode}
 use Rattle.isa.specs.declared.Mode.the-variants.{Post, Pre, Offset}
 use Rattle.isa.specs.declared.TwoSourceOp.the-variants.{Subp, Subps, Irg, Gmi}
@@ -29,7 +29,8 @@ use Rattle.machine.specs.Registers.{xOrSp, orNone}
 use Rattle.machine.specs.Pointers.{tagOf}
 use Rattle.machine.specs.TagLoad.{ldgAddress}
 use Rattle.machine.specs.TagStores.{isPair}
-use Rattle.machine.specs.Plans.{registerEffect, storeEffect, ldgEffect, writebackTo, zeroing, accept, placeOf, formPlan, planOf, decodedFits, IfAccepted}
+use Rattle.machine.specs.Accesses.{writebackTo}
+use Rattle.machine.specs.Plans.{registerEffect, storeEffect, ldgEffect, zeroing, accept, placeOf, formPlan, planOf, decodedFits, IfAccepted}
 use Rattle.machine.proofs.Setup.{state-status}
 use Rattle.machine.proofs.Statuses.{StatusInRange, plan-statuses}
 use Rattle.machine.proofs.Within.{accepted}

@@ -6,7 +6,8 @@ use native.Mathlib.Omega.{arith}
 use lib.Dec.{eqb}
 use lib.ListN.{length}
 use Rattle.bits.proofs.Fields.{field-lt}
-use Rattle.tag.proofs.TagChoice.{chosen-lt, cond-lt}
+use Rattle.bits.proofs.Bounds.{cond-lt}
+use Rattle.tag.proofs.TagChoice.{chosen-lt}
 use Rattle.isa.specs.declared.TwoSourceOp.the-variants.{Subp, Subps, Irg, Gmi}
 use Rattle.isa.specs.declared.Form.{Form}
 use Rattle.isa.specs.declared.Form.the-variants.{AddSub, TwoSource, Ldg, TagStore, Stgp}

@@ -22,12 +22,12 @@ use Rattle.machine.specs.declared.Change.{Change}
 use Rattle.machine.specs.declared.Change.the-variants.{Keep, Pair}
 use Rattle.machine.specs.State.{State, withX, withBytes, withTags}
 use Rattle.machine.specs.Registers.{written}
-use Rattle.machine.specs.Accesses.{writeback}
+use Rattle.machine.specs.Accesses.{writeback, writebackTo}
 use Rattle.machine.specs.Pointers.{tagOf}
 use Rattle.machine.specs.TagStores.{storeTag, storeTags, isPair}
 use Rattle.machine.specs.PairStore.{storePair}
 use Rattle.machine.specs.Effects.{newBytes, newTags}
-use Rattle.machine.specs.Plans.{writebackTo, zeroing}
+use Rattle.machine.specs.Plans.{zeroing}
 
 pub written-back : (mode : Mode) (n v : ℕ) (s : State) → writeback mode n v s ≡ withX (written (s .registers .x) (writebackTo mode n) v) s
 written-back Post n v s = refl

@@ -24,6 +24,12 @@ writeback Post n v s = toXOrSp n v s
 writeback Pre n v s = toXOrSp n v s
 writeback Offset n v s = s
 
+-- the register that is written back: 32, none, with an offset
+abbrev pub writebackTo : Mode → ℕ → ℕ
+writebackTo Post n = n
+writebackTo Pre n = n
+writebackTo Offset n = 32
+
 -- in LDG and the stores, if Rn is SP, SP must be a multiple of 16
 abbrev pub spMisaligned : ℕ → ℕ → Bool
 spMisaligned n from = eqb n 31 && not (eqb (from % 16) 0)

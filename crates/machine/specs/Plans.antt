@@ -4,7 +4,6 @@ use mathlib.Core.Bool.{Bool, true, false, cond}
 use mathlib.Core.List.{List}
 use lib.ListN.{length}
 use Rattle.isa.specs.declared.Mode.{Mode}
-use Rattle.isa.specs.declared.Mode.the-variants.{Post, Pre, Offset}
 use Rattle.isa.specs.declared.TwoSourceOp.{TwoSourceOp}
 use Rattle.isa.specs.declared.TwoSourceOp.the-variants.{Subp, Subps, Irg, Gmi}
 use Rattle.isa.specs.declared.TagStoreOp.{TagStoreOp}
@@ -31,7 +30,7 @@ use Rattle.machine.specs.declared.Judged.the-variants.{Refused, Accepted
 use Rattle.machine.specs.State.{State}
 use Rattle.machine.specs.Registers.{xOrSp, xOrZero, orNone}
 use Rattle.machine.specs.Codes.{codeNumber}
-use Rattle.machine.specs.Accesses.{addressOf, spMisaligned, misaligned}
+use Rattle.machine.specs.Accesses.{addressOf, writebackTo, spMisaligned, misaligned}
 use Rattle.machine.specs.Pointers.{tagOf, withTag, addSubResult, difference, differenceFlags, withNzcv, withTagBit}
 use Rattle.machine.specs.RandomTag.{irgTag, irgStatus, irgMask}
 use Rattle.machine.specs.TagLoad.{ldgAddress, loadedTag}
@@ -74,12 +73,6 @@ placeOf settings g n from address pair =
 
 abbrev pub ldgEffect : Settings → List ℕ → Status → List ℕ → ℕ → ℕ → Effect
 ldgEffect settings x status tags t i = registerEffect (orNone t) (withTag (xOrZero x t) (loadedTag settings tags i)) status
-
--- the register that is written back, if any
-abbrev pub writebackTo : Mode → ℕ → ℕ
-writebackTo Post n = n
-writebackTo Pre n = n
-writebackTo Offset n = 32
 
 abbrev pub zeroing : TagStoreOp → Change
 zeroing Stg = Keep

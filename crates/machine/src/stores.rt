@@ -1,6 +1,7 @@
 // What every store shares: its address, its refusals, writeback.
 ghost use mathlib.Core.Path.{_≡_};
-ghost use Rattle.machine.specs.Plans.{storeEffect, storePlan, writebackTo};
+ghost use Rattle.machine.specs.Accesses.{writebackTo};
+ghost use Rattle.machine.specs.Plans.{storeEffect, storePlan};
 ghost use Rattle.memory.specs.Addresses.{named};
 use super::Change;
 use super::Effect;

@@ -9,6 +9,7 @@ use lib.Dec.{eqb}
 use lib.Pow.{pow-pos, pow-add, mod-pow-add, high, ones-lt, ones-split}
 use borrow.Author.Tests.{eq-eqb, ne-eqb, eqb-true}
 use Rattle.bits.specs.Fields.{bitsAt}
+use Rattle.bits.proofs.Bounds.{cond-lt}
 use Rattle.tag.specs.TagChoice.{masked, next, skip, past, walk, chosen}
 
 -- ---- the definitions by their cases
@@ -43,10 +44,6 @@ module _ (start offset mask : ℕ) where
   chosen-walk f g = simp (ne-eqb mask 65535 f, ne-eqb offset 0 g)
 
 -- ---- the chosen tag is below 16
-
-pub cond-lt : (b : Bool) {x y m : ℕ} → x < m → y < m → cond b x y < m
-cond-lt true hx hy = hx
-cond-lt false hx hy = hy
 
 skip-lt : (n mask t : ℕ) → t < 16 → skip n mask t < 16
 unfolding skip
