@@ -69,12 +69,16 @@ pub fn locate(base: u64, granules: usize, address: u64, pair: bool) -> Granule
     Granule::At(((address % 0x100_0000_0000_0000 - base) / 16) as usize)
 }
 
-// Zeroes the data of so many granules.
+// Zeroes the data of so many granules. The first is mostly the only one, and is stored apart.
 pub fn zero(part: &mut [u8], granules: usize)
     requires { ⌜ 16 * granules ≤ length (now part) ⌝ }
     ensures { λ _. ⌜ now (part .exit) ≡ sets (now (part .entry)) 0 (zeroBytes granules) ⌝ }
 {
-    let mut i = 0;
+    if granules == 0 {
+        return;
+    }
+    store_pair(part, 0, 0);
+    let mut i = 1;
     while i < granules {
         store_pair(&mut part[16 * i..], 0, 0);
         i += 1;

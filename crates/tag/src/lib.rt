@@ -11,11 +11,11 @@ pub struct Drawn {
 }
 
 // Whether the mask has the tag's bit.
-fn is_masked(mask: u16, tag: u8) -> bool
+fn is_masked(mask: u16, tag: u64) -> bool
     requires { ⌜ tag < 16 ⌝ }
     ensures { λ r. ⌜ r ≡ masked mask tag ⌝ }
 {
-    bits::field(mask as u64, tag as u64, 1) == 1
+    bits::field(mask as u64, tag, 1) == 1
 }
 
 // The chosen tag. A turn of the outer loop moves on by one, unless the offset is 0; the inner loop goes on past masked tags.
@@ -24,8 +24,8 @@ pub fn choose(start: u8, offset: u8, mask: u16) -> u8
     requires { ⌜ start < 16 ⌝ }
     ensures { λ r. ⌜ r ≡ chosen start offset mask ⌝ }
 {
-    let mut tag = start;
-    let mut left = offset;
+    let mut tag = start as u64;
+    let mut left = offset as u64;
     'walk: loop {
         if 0 < left {
             tag = (tag + 1) % 16;
@@ -42,7 +42,7 @@ pub fn choose(start: u8, offset: u8, mask: u16) -> u8
             break;
         }
     }
-    tag
+    tag as u8
 }
 
 // Draws four random bits, lowest first, all at once: none of them has come down yet to the seed bits that are added.

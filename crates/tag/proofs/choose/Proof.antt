@@ -7,7 +7,7 @@ use Prim.Native.Nat.{_<_}
 use native.Mathlib.Omega.{arith}
 use borrow.Author.Needs.{needs}
 use Rattle.tag.specs.TagChoice.{next, past, walk, chosen}
-use Rattle.tag.proofs.TagChoice.{toGo, past-on, chosen-none, chosen-walk, walk-zero, turn-moves, turn-stays, turn-ends}
+use Rattle.tag.proofs.TagChoice.{toGo, past-on, chosen-lt, chosen-none, chosen-walk, walk-zero, turn-moves, turn-stays, turn-ends}
 use Rattle.tag.proofs.choose.Statement.{statement}
 use Rattle.tag.proofs.choose.Tie as tie
 
@@ -82,10 +82,16 @@ walk-again c =
     (c .before .before .before .loop .inv .0, chosen-walk _ _ _ (e .0) (c .if4 .left) ∙ e .1)
 
 returns : tie.Need-returns Inv-loop μ-loop Inv-walk μ-walk
-returns c = sym (chosen-none _ _ _ (c .if3 .taken))
+returns c =
+    ⊎-elim
+    (λ w. w .2 ∙ sym (chosen-none _ _ _ (w .1 .taken)))
+    (λ w. w .2 ∙ sym (walk-zero _ _ _ (w .1 .taken)) ∙ ended (record { before = c .before .before; if2 = w .0 }) .1)
+    (c .before .if2 .came)
 
-returns-2 : tie.Need-returns-2 Inv-loop μ-loop Inv-walk μ-walk
-returns-2 c = sym (walk-zero _ _ _ (c .if4 .taken)) ∙ ended (c .before) .1
+cast-result : tie.Need-cast-result Inv-loop μ-loop Inv-walk μ-walk
+cast-result c =
+    let a = c .before .before .before .before .before .before .args in
+    omega (arith, returns c, chosen-lt (a .start) (a .offset) (a .mask) (omega arith))
 
 pub choose-spec : {M : Type 1} → statement M
 choose-spec =
@@ -105,5 +111,5 @@ choose-spec =
     loop-again
     walk-less
     walk-again
-    returns
-    returns-2)
+    cast-result
+    returns)
