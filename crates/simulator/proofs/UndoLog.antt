@@ -9,7 +9,7 @@ use Rattle.machine.specs.Codes.{isDone}
 use Rattle.simulator.specs.Calls.{Call, refused, done, whenDone, inOrder, Machine, calls}
 use Rattle.simulator.proofs.Alike.{OutAlike, LeftAlike, EndedAlike, in-order-alike, calls-alike}
 
--- What a state, a log and a copy are is not known here: a log owes the laws of `UndoLog`, whatever its layout.
+-- What a state, a log and a copy are is not known here: a log has to keep the laws of `UndoLog`, whatever its layout.
 
 -- what the rules give a word on a state that breaks none: its code, and the state after it
 pub record Rules (S : Type 0) : Type 0 where
@@ -44,7 +44,7 @@ module _ {S X Y L K : Type 0} {rules : Rules S} {ours : Machine X} {plain : Mach
     pub back : ours .back (logs .joined s l) ≡ done (logs .joined (stacks .copied k) rest)
     pub undoes : Undoes (stacks .copied k) rest ks
 
-  -- the laws that a log owes. `Start`: what is asked of the start. `Undoes s l ks`: no rule of the setup is broken, and at the state s
+  -- the laws that a log has to keep. `Start`: what is asked of the start. `Undoes s l ks`: no rule of the setup is broken, and at the state s
   -- the log l undoes to each of the copies ks in turn, and to no more.
   pub record UndoLog (Start : S → L → Type 0) : Type 1 where
     pub Undoes : S → L → List K → Type 0
