@@ -19,6 +19,7 @@ pub mod record;
 pub mod recorded;
 pub mod replay;
 pub mod script;
+pub mod session;
 pub mod tag_choice;
 pub mod tally;
 pub mod words;

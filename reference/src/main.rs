@@ -16,11 +16,13 @@ use reference::compare;
 use reference::generate::jobs;
 use reference::player::play;
 use reference::replay::replay;
+use reference::session;
 
 const USAGE: &str = "\
 usage: reference tag-choice | word-code
        reference replay PROGRAM [--long] [--seed NUMBER]
        reference play <SCRIPT
+       reference answer-session <INPUT
        reference bench PROGRAM
        reference bench-loop <WORKLOAD";
 const ALL_WORDS: u64 = 1 << 32;
@@ -38,6 +40,7 @@ fn main() -> ExitCode {
         [name] if name == "tag-choice" => tag_choice(),
         [name] if name == "word-code" => word_code(),
         [name] if name == "play" => return answer_standard_input(|script| play(script).output),
+        [name] if name == "answer-session" => return answer_standard_input(session::answer),
         [name] if name == "bench-loop" => {
             return answer_standard_input(|workload| bench::answer(workload).into_bytes())
         }

@@ -159,7 +159,7 @@ fn list(text: &[u8], digits: &[usize]) -> Option<Vec<u64>> {
 }
 
 /// A number in lower-case hexadecimal with exactly so many digits, at most 16.
-fn number(text: &[u8], digits: usize) -> Option<u64> {
+pub(crate) fn number(text: &[u8], digits: usize) -> Option<u64> {
     if text.len() != digits {
         return None;
     }
@@ -173,7 +173,7 @@ fn number(text: &[u8], digits: usize) -> Option<u64> {
     })
 }
 
-fn yes_or_no(text: &[u8]) -> Option<bool> {
+pub(crate) fn yes_or_no(text: &[u8]) -> Option<bool> {
     match text {
         b"0" => Some(false),
         b"1" => Some(true),
@@ -181,7 +181,7 @@ fn yes_or_no(text: &[u8]) -> Option<bool> {
     }
 }
 
-fn below(number: u64, limit: usize) -> Option<usize> {
+pub(crate) fn below(number: u64, limit: usize) -> Option<usize> {
     let number = usize::try_from(number).ok()?;
     (number < limit).then_some(number)
 }
