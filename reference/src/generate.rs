@@ -17,31 +17,12 @@ mod walks;
 
 pub use author::{Script, WHOLE};
 
+use crate::plan::{Job, Plan};
 use crate::words::FORMS;
 use random::Random;
 
-type Make = Box<dyn Fn(&mut Random) -> Script + Send + Sync>;
-
-/// One script to be made. Its random choices hang on the run's seed, on its
-/// kind and on its number within the kind, and on nothing else.
-pub struct Job {
-    pub kind: &'static str,
-    pub number: u64,
-    make: Make,
-}
-
-impl Job {
-    pub fn script(&self, seed: u64) -> Script {
-        let mut random = Random::new(seed);
-        for byte in self.kind.bytes() {
-            random = Random::new(random.bits() ^ u64::from(byte));
-        }
-        (self.make)(&mut Random::new(random.bits() ^ self.number))
-    }
-}
-
 /// All scripts there are, with so many times as many random ones.
-pub fn jobs(times: u64) -> Vec<Job> {
+pub fn jobs(times: u64) -> Vec<Job<Script>> {
     let mut plan = Plan::default();
     plan.once("rows of the paper", |_| rows::all());
     plan.once("rules of the setup", |_| setups::single_rules());
@@ -74,34 +55,7 @@ pub fn jobs(times: u64) -> Vec<Job> {
     }
     let wrong_byte = |random: &mut Random| Script::of(bad_scripts::with_wrong_byte(random));
     plan.random("bad scripts", 200 * times, wrong_byte);
-    plan.jobs
-}
-
-#[derive(Default)]
-struct Plan {
-    jobs: Vec<Job>,
-}
-
-impl Plan {
-    fn once(
-        &mut self,
-        kind: &'static str,
-        make: impl Fn(&mut Random) -> Script + Send + Sync + 'static,
-    ) {
-        let same_kind = self.jobs.iter().filter(|job| job.kind == kind);
-        let number = same_kind.count() as u64;
-        let make = Box::new(make);
-        self.jobs.push(Job { kind, number, make });
-    }
-
-    fn random(
-        &mut self,
-        kind: &'static str,
-        times: u64,
-        make: impl Fn(&mut Random) -> Script + Send + Sync + Copy + 'static,
-    ) {
-        (0..times).for_each(|_| self.once(kind, make));
-    }
+    plan.jobs()
 }
 
 #[cfg(test)]
@@ -110,7 +64,7 @@ mod tests {
     use crate::player::play;
     use crate::script::MOST_BYTES;
 
-    fn first_of_each_kind() -> Vec<Job> {
+    fn first_of_each_kind() -> Vec<Job<Script>> {
         let mut jobs = jobs(1);
         jobs.retain(|job| job.number == 0);
         jobs
@@ -119,12 +73,12 @@ mod tests {
     #[test]
     fn a_seed_gives_the_same_script_again() {
         for job in first_of_each_kind() {
-            assert_eq!(job.script(3).text, job.script(3).text, "{}", job.kind);
+            assert_eq!(job.made(3).text, job.made(3).text, "{}", job.kind);
         }
         let walk = |seed| {
             let walks = first_of_each_kind().into_iter();
             let mut walks = walks.filter(|job| job.kind == "random walks");
-            walks.next().map(|job| job.script(seed).text)
+            walks.next().map(|job| job.made(seed).text)
         };
         assert_ne!(walk(1), walk(2));
     }
@@ -132,7 +86,7 @@ mod tests {
     #[test]
     fn scripts_are_short_enough_and_played_as_a_whole_alike() {
         for job in first_of_each_kind() {
-            let script = job.script(1);
+            let script = job.made(1);
             assert!(script.text.len() <= MOST_BYTES, "{}", job.kind);
             let whole = play(&script.text);
             assert!(whole.output == script.played.output, "{}", job.kind);

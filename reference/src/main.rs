@@ -14,6 +14,7 @@ use std::thread;
 use reference::bench;
 use reference::compare;
 use reference::generate::jobs;
+use reference::minima::wanting;
 use reference::player::play;
 use reference::replay::replay;
 use reference::session;
@@ -105,7 +106,7 @@ fn replay_scripts(program: &Path, times: u64, seed: u64) -> Outcome {
     println!("replay of {}, seed {seed}", program.display());
     let summary = replay(program, &jobs(times), seed, threads());
     let summary = summary.map_err(|failure| failure.to_string())?;
-    match summary.wanting(times).as_slice() {
+    match wanting(&summary.tally(), times).as_slice() {
         [] => Ok(summary.to_string()),
         wanting => Err(format!(
             "{summary}\nall equal, but too little is compared:\n{}",

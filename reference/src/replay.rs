@@ -1,20 +1,14 @@
 //! Runs a program on scripts and compares what it writes, byte by byte.
 
-use std::collections::BTreeMap;
-use std::env;
 use std::fmt;
-use std::fs;
-use std::path::{Path, PathBuf};
+use std::path::Path;
 use std::process::Command;
-use std::sync::atomic::{AtomicUsize, Ordering};
-use std::sync::Mutex;
-use std::thread;
 use std::time::Duration;
 
-use crate::generate::{Job, Script};
-use crate::minima::wanting;
+use crate::generate::Script;
+use crate::plan::Job;
 use crate::process::{run, Ended};
-use crate::tally::Tally;
+use crate::trials::{try_all, Failure, Summary};
 
 /// The first line on which the two disagree, counted from 1; nothing where
 /// the output has ended.
@@ -82,140 +76,23 @@ fn complaint(program: &Path, script: &Script, limit: Duration) -> Option<String>
     }
 }
 
-/// Counts of the scripts of one kind.
-#[derive(Default)]
-struct Counts {
-    scripts: u64,
-    bytes_in: usize,
-    bytes_out: usize,
-    tally: Tally,
-}
-
-/// What was compared and found equal.
-#[derive(Default)]
-pub struct Summary {
-    kinds: BTreeMap<&'static str, Counts>,
-}
-
-impl Summary {
-    fn count(&mut self, job: &Job, script: &Script) {
-        let counts = self.kinds.entry(job.kind).or_default();
-        counts.scripts += 1;
-        counts.bytes_in += script.text.len();
-        counts.bytes_out += script.played.output.len();
-        counts.tally.add(&script.played.tally);
-    }
-
-    /// What there is too little of.
-    pub fn wanting(&self, times: u64) -> Vec<String> {
-        let mut all = Tally::default();
-        self.kinds
-            .values()
-            .for_each(|counts| all.add(&counts.tally));
-        wanting(&all, times)
-    }
-}
-
-impl fmt::Display for Summary {
-    fn fmt(&self, out: &mut fmt::Formatter) -> fmt::Result {
-        let mut all = Tally::default();
-        for (kind, counts) in &self.kinds {
-            let Counts {
-                scripts,
-                bytes_in,
-                bytes_out,
-                tally,
-            } = counts;
-            writeln!(out, "{kind}: {scripts} scripts ({bytes_in} bytes), {bytes_out} bytes of output equal; {tally}")?;
-            all.add(tally);
-        }
-        writeln!(out, "all: {all}")?;
-        writeln!(out, "{}", all.by_form())?;
-        write!(out, "{}", all.by_case())
-    }
-}
-
-/// A script on which the program failed.
-pub struct Failure {
-    kind: &'static str,
-    number: u64,
+/// Tries a program on all scripts.
+pub fn replay(
+    program: &Path,
+    jobs: &[Job<Script>],
     seed: u64,
-    complaint: String,
-    file: PathBuf,
-}
-
-impl fmt::Display for Failure {
-    fn fmt(&self, out: &mut fmt::Formatter) -> fmt::Result {
-        let file = self.file.display();
-        writeln!(
-            out,
-            "{}, script {}, seed {}: {}",
-            self.kind, self.number, self.seed, self.complaint
-        )?;
-        write!(out, "the script: {file}")
-    }
-}
-
-/// Puts the script where it can be tried again.
-fn keep(job: &Job, seed: u64, script: &Script, complaint: String) -> Failure {
-    let kind = job.kind.replace(' ', "-");
-    let name = format!("reference-{kind}-{}-seed-{seed}.script", job.number);
-    let file = env::temp_dir().join(name);
-    if let Err(error) = fs::write(&file, &script.text) {
-        eprintln!("{} cannot be written: {error}", file.display());
-    }
-    Failure {
-        kind: job.kind,
-        number: job.number,
-        seed,
-        complaint,
-        file,
-    }
-}
-
-/// Tries a program on all scripts. Of several failures the one of the first
-/// job is given.
-pub fn replay(program: &Path, jobs: &[Job], seed: u64, threads: usize) -> Result<Summary, Failure> {
-    let next = AtomicUsize::new(0);
-    let summary = Mutex::new(Summary::default());
-    let first_failure: Mutex<Option<(usize, Failure)>> = Mutex::new(None);
-    let work = || {
-        while let Some((place, job)) = take(jobs, &next) {
-            let script = job.script(seed);
-            match complaint(program, &script, LIMIT) {
-                None => summary
-                    .lock()
-                    .expect("no thread panics")
-                    .count(job, &script),
-                Some(complaint) => {
-                    // No thread begins another job; all earlier ones have begun.
-                    next.store(jobs.len(), Ordering::SeqCst);
-                    let mut first = first_failure.lock().expect("no thread panics");
-                    if first.as_ref().is_none_or(|(earliest, _)| place < *earliest) {
-                        *first = Some((place, keep(job, seed, &script, complaint)));
-                    }
-                }
-            }
-        }
-    };
-    thread::scope(|scope| {
-        (0..threads).for_each(|_| drop(scope.spawn(work)));
-    });
-    match first_failure.into_inner().expect("no thread panics") {
-        Some((_, failure)) => Err(failure),
-        None => Ok(summary.into_inner().expect("no thread panics")),
-    }
-}
-
-fn take<'jobs>(jobs: &'jobs [Job], next: &AtomicUsize) -> Option<(usize, &'jobs Job)> {
-    let place = next.fetch_add(1, Ordering::SeqCst);
-    Some((place, jobs.get(place)?))
+    threads: usize,
+) -> Result<Summary, Failure> {
+    try_all(jobs, seed, threads, |script| {
+        complaint(program, script, LIMIT)
+    })
 }
 
 #[cfg(test)]
 mod tests {
     use super::*;
     use crate::generate::jobs;
+    use std::fs;
 
     fn differing(line: usize, reference: Option<&str>, program: Option<&str>) -> Option<Differing> {
         Some(Differing {
@@ -247,7 +124,7 @@ mod tests {
         );
     }
 
-    fn first_job(kind: &str) -> Vec<Job> {
+    fn first_job(kind: &str) -> Vec<Job<Script>> {
         let mut jobs = jobs(1);
         jobs.retain(|job| job.kind == kind && job.number == 0);
         jobs
@@ -264,7 +141,7 @@ mod tests {
         let begin = "rows of the paper, script 0, seed 5: output line 1\n  reference: code=0\\n\n  program:   # P1\\n\n";
         assert!(text.starts_with(begin), "{text}");
         let kept = fs::read(&failure.file).expect("the script is kept");
-        assert_eq!(kept, jobs[0].script(5).text);
+        assert_eq!(kept, jobs[0].made(5).text);
         fs::remove_file(&failure.file).expect("the script can be removed");
     }
 

@@ -6,6 +6,8 @@ use crate::player::{play, Played, Player};
 use crate::record::WORDS;
 use crate::recorded::Recorded;
 use crate::script;
+use crate::tally::Tally;
+use crate::trials::Trial;
 
 /// A script with what must be written for it.
 pub struct Script {
@@ -24,6 +26,22 @@ impl Script {
         let name = if bad { "bad" } else { "played" };
         played.tally.count_case(WHOLE, name);
         Script { text, played }
+    }
+}
+
+impl Trial for Script {
+    const NAME: &'static str = "script";
+
+    fn input(&self) -> &[u8] {
+        &self.text
+    }
+
+    fn answer(&self) -> &[u8] {
+        &self.played.output
+    }
+
+    fn tally(&self) -> &Tally {
+        &self.played.tally
     }
 }
 
