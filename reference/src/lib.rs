@@ -21,6 +21,7 @@ pub mod recorded;
 pub mod replay;
 pub mod script;
 pub mod session;
+pub mod sessions;
 pub mod tag_choice;
 pub mod tally;
 pub mod trials;

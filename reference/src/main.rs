@@ -18,18 +18,21 @@ use reference::minima::wanting;
 use reference::player::play;
 use reference::replay::replay;
 use reference::session;
+use reference::sessions;
+use reference::trials::Summary;
 
 const USAGE: &str = "\
 usage: reference tag-choice | word-code
        reference replay PROGRAM [--long] [--seed NUMBER]
+       reference session PROGRAM [--long] [--seed NUMBER]
        reference play <SCRIPT
        reference answer-session <INPUT
        reference bench PROGRAM
        reference bench-loop <WORKLOAD";
 const ALL_WORDS: u64 = 1 << 32;
-/// A replay repeats the same scripts unless it is told another seed.
+/// A comparison repeats the same inputs unless it is told another seed.
 const USUAL_SEED: u64 = 1;
-/// How much more of the random scripts a long replay has.
+/// How much more of the random inputs a long comparison has.
 const LONG: u64 = 20;
 
 /// What to print: a summary, or a difference.
@@ -46,10 +49,16 @@ fn main() -> ExitCode {
             return answer_standard_input(|workload| bench::answer(workload).into_bytes())
         }
         [name, program] if name == "bench" => time_beside_loop(Path::new(program)),
-        [name, program, options @ ..] if name == "replay" => match replay_options(options) {
-            Some((times, seed)) => replay_scripts(Path::new(program), times, seed),
-            None => return misuse(),
-        },
+        [name, program, options @ ..] if name == "replay" || name == "session" => {
+            let Some((times, seed)) = options_of(options) else {
+                return misuse();
+            };
+            let program = Path::new(program);
+            match name == "replay" {
+                true => replay_scripts(program, times, seed),
+                false => compare_sessions(program, times, seed),
+            }
+        }
         _ => return misuse(),
     };
     match outcome {
@@ -86,16 +95,16 @@ fn word_code() -> Outcome {
     ))
 }
 
-/// How often the random scripts are made, and from which seed.
-fn replay_options(options: &[OsString]) -> Option<(u64, u64)> {
+/// How often the random inputs are made, and from which seed.
+fn options_of(options: &[OsString]) -> Option<(u64, u64)> {
     match options {
         [] => Some((1, USUAL_SEED)),
         [long, others @ ..] if long == "--long" => {
-            let (_, seed) = replay_options(others)?;
+            let (_, seed) = options_of(others)?;
             Some((LONG, seed))
         }
         [name, seed, others @ ..] if name == "--seed" => {
-            let (times, _) = replay_options(others)?;
+            let (times, _) = options_of(others)?;
             Some((times, seed.to_str()?.parse().ok()?))
         }
         _ => None,
@@ -106,7 +115,18 @@ fn replay_scripts(program: &Path, times: u64, seed: u64) -> Outcome {
     println!("replay of {}, seed {seed}", program.display());
     let summary = replay(program, &jobs(times), seed, threads());
     let summary = summary.map_err(|failure| failure.to_string())?;
-    match wanting(&summary.tally(), times).as_slice() {
+    held_to_minima(&summary, wanting(&summary.tally(), times))
+}
+
+fn compare_sessions(program: &Path, times: u64, seed: u64) -> Outcome {
+    println!("sessions of {}, seed {seed}", program.display());
+    let summary = sessions::compare(program, &sessions::jobs(times), seed, threads());
+    let summary = summary.map_err(|failure| failure.to_string())?;
+    held_to_minima(&summary, sessions::minima::wanting(&summary, times))
+}
+
+fn held_to_minima(summary: &Summary, wanting: Vec<String>) -> Outcome {
+    match wanting.as_slice() {
         [] => Ok(summary.to_string()),
         wanting => Err(format!(
             "{summary}\nall equal, but too little is compared:\n{}",

@@ -94,11 +94,7 @@ const RUN_CODES: [(Code, u64); 6] = [
 /// A line for each count that is below its minimum. With so many times as
 /// many random scripts there must be so many times as much.
 pub fn wanting(tally: &Tally, times: u64) -> Vec<String> {
-    let mut counts = Counts {
-        tally,
-        times,
-        wanting: Vec::new(),
-    };
+    let mut counts = Counts::of(tally, times);
     counts.lists();
     counts.calls();
     counts.records();
@@ -113,10 +109,21 @@ pub fn wanting(tally: &Tally, times: u64) -> Vec<String> {
     counts.wanting
 }
 
-struct Counts<'a> {
+/// Counts that are held to their minima, and a line for each that is below.
+pub(crate) struct Counts<'a> {
     tally: &'a Tally,
     times: u64,
-    wanting: Vec<String>,
+    pub(crate) wanting: Vec<String>,
+}
+
+impl<'a> Counts<'a> {
+    pub(crate) fn of(tally: &'a Tally, times: u64) -> Counts<'a> {
+        Counts {
+            tally,
+            times,
+            wanting: Vec::new(),
+        }
+    }
 }
 
 impl Counts<'_> {
@@ -181,22 +188,22 @@ impl Counts<'_> {
     }
 
     /// Of cases that more random scripts make more of.
-    fn case(&mut self, group: &str, name: &str, minimum: u64) {
+    pub(crate) fn case(&mut self, group: &str, name: &str, minimum: u64) {
         let count = self.tally.cases(group, name);
         self.many(&format!("{group}: {name}"), count, minimum);
     }
 
-    fn many(&mut self, name: &str, count: u64, minimum: u64) {
+    pub(crate) fn many(&mut self, name: &str, count: u64, minimum: u64) {
         self.at_least(name, count, self.times * minimum);
     }
 
     /// Of cases that are the same however many random scripts there are.
-    fn once(&mut self, group: &str, name: &str, minimum: u64) {
+    pub(crate) fn once(&mut self, group: &str, name: &str, minimum: u64) {
         let count = self.tally.cases(group, name);
         self.at_least(&format!("{group}: {name}"), count, minimum);
     }
 
-    fn at_least(&mut self, name: &str, count: u64, minimum: u64) {
+    pub(crate) fn at_least(&mut self, name: &str, count: u64, minimum: u64) {
         if count < minimum {
             let text = format!("{name}: {count}, at least {minimum} are wanted");
             self.wanting.push(text);

@@ -38,9 +38,11 @@ pub struct Summary {
 }
 
 impl Summary {
-    fn new(name: &'static str) -> Summary {
-        let kinds = BTreeMap::new();
-        Summary { name, kinds }
+    pub fn of<T: Trial>() -> Summary {
+        Summary {
+            name: T::NAME,
+            kinds: BTreeMap::new(),
+        }
     }
 
     fn count(&mut self, kind: &'static str, trial: &impl Trial) {
@@ -145,7 +147,7 @@ pub fn try_all<T: Trial>(
     complaint: impl Fn(&T) -> Option<String> + Sync,
 ) -> Result<Summary, Failure> {
     let next = AtomicUsize::new(0);
-    let summary = Mutex::new(Summary::new(T::NAME));
+    let summary = Mutex::new(Summary::of::<T>());
     let first_failure: Mutex<Option<(usize, Failure)>> = Mutex::new(None);
     let work = || {
         while let Some((place, job)) = take(jobs, &next) {
