@@ -9,6 +9,7 @@ mod cursors;
 pub mod lists;
 pub(crate) mod operands;
 pub(crate) mod random;
+mod reach;
 pub mod records;
 pub mod rows;
 mod runs;
@@ -49,6 +50,14 @@ pub fn jobs(times: u64) -> Vec<Job<Script>> {
     plan.random("encode", 2 * times, codings::random_encodings);
     plan.random("choose", times, choices::choices);
     plan.once("draw", |_| choices::draws());
+    for (base, tags) in reach::EVERY_PLACE {
+        let asked = move |random: &mut Random| reach::every_place(random, base, tags);
+        plan.random("reach", times, asked);
+    }
+    plan.random("reach", 6 * times, reach::small);
+    plan.random("reach", times, reach::small_memories);
+    plan.random("reach", times, reach::large_memories);
+    plan.random("reach", 2 * times, reach::large);
     plan.random("kept bytes", 2 * times, choices::kept_bytes);
     for text in bad_scripts::all() {
         plan.once("bad scripts", move |_| Script::of(text.clone()));

@@ -16,6 +16,8 @@ pub mod plan;
 pub mod player;
 mod pointers;
 mod process;
+mod reach;
+mod reach_facts;
 pub mod record;
 pub mod recorded;
 pub mod replay;

@@ -42,12 +42,15 @@ impl Machine {
 
     /// Document 01, "Sizes and shape of the setup", but for the cursor.
     pub fn well_formed(&self) -> bool {
+        self.memory_well_formed() && self.nzcv <= 15 && self.rgsr_tag <= 15
+    }
+
+    /// The rules for the sizes and the base alone.
+    pub fn memory_well_formed(&self) -> bool {
         self.tags.len() <= MOST_GRANULES
             && self.data.len() == 16 * self.tags.len()
             && self.base.is_multiple_of(16)
             && self.end() <= 1 << 56
-            && self.nzcv <= 15
-            && self.rgsr_tag <= 15
     }
 
     /// base + 16 × G over the whole numbers: it may exceed 64 bits.

@@ -9,6 +9,8 @@ use crate::encoder::{decode, encode};
 use crate::facts;
 use crate::machine::SP;
 use crate::plain::Plain;
+use crate::reach::checksum;
+use crate::reach_facts;
 use crate::recorded::Recorded;
 use crate::script::{lines, Line, MOST_DATA, MOST_HISTORY, MOST_LISTED, MOST_TAGS};
 use crate::tag_choice::choose;
@@ -110,6 +112,7 @@ impl Player {
                 let (bits, seed) = draw(seed);
                 self.write(format_args!("drawn={bits:x} {seed:04x}"));
             }
+            Line::Reach(pointer) => self.reach(pointer),
             Line::Nothing => {}
             setting => {
                 self.end_list();
@@ -240,6 +243,16 @@ impl Player {
         let (code, word) = encode(form, values);
         self.tally.count_encoding(code);
         self.write(format_args!("encoded={} {word:08x}", code as u8));
+    }
+
+    fn reach(&mut self, pointer: u64) {
+        let part = self.recorded.machine.reachable(pointer);
+        reach_facts::count(&mut self.tally, &self.recorded, pointer, &part);
+        let (start, length) = (part.start, part.len());
+        let checksum = checksum(&self.recorded.machine.data[part]);
+        self.write(format_args!(
+            "reached={start:08x} {length:08x} {checksum:016x}"
+        ));
     }
 
     /// Writes the state as the lines that would set it up.
@@ -540,6 +553,32 @@ list=00000002 91804020
         );
         assert_eq!(text("choose=2 1 0008\n"), "chosen=4\n");
         assert_eq!(text("draw=0001\n"), "drawn=1 1000\n");
+    }
+
+    #[test]
+    fn the_reachable_part_is_asked_for() {
+        let script = "\
+dump=0
+fresh=0000000000001000
+tags=00000003
+data=00000030
+tag=00000000 a5
+tag=00000001 05
+byte=0000001e 02
+byte=0000001f 03
+byte=00000020 04
+";
+        for (pointer, reached) in [
+            ("0500000000001000", "00000000 00000020 0000000000000041"),
+            ("c50000000000101e", "0000001e 00000002 0000000000000041"),
+            ("050000000000101f", "0000001f 00000001 0000000000000003"),
+            ("0000000000001020", "00000020 00000010 37b5052f8647777c"),
+            ("0500000000001020", "00000000 00000000 0000000000000000"),
+            ("0500000000000fff", "00000000 00000000 0000000000000000"),
+        ] {
+            let script = format!("{script}reach={pointer}\n");
+            assert_eq!(text(&script), format!("reached={reached}\n"), "{pointer}");
+        }
     }
 
     #[test]

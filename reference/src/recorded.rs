@@ -32,11 +32,14 @@ impl Recorded {
 
     /// Document 01, "Sizes and shape of the setup".
     pub fn well_formed(&self) -> bool {
-        let cursor = match self.slots() {
+        self.cursor_well_formed() && self.machine.well_formed()
+    }
+
+    pub fn cursor_well_formed(&self) -> bool {
+        match self.slots() {
             0 => self.next == 0 && self.held == 0,
             slots => self.next < slots && self.held <= slots,
-        };
-        cursor && self.machine.well_formed()
+        }
     }
 
     pub fn step(&mut self, word: u32) -> Code {

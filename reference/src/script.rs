@@ -38,6 +38,7 @@ pub enum Line {
     Encode(&'static Form, Vec<u64>),
     Choose(u8, u8, u16),
     Draw(u16),
+    Reach(u64),
     /// Empty, or a remark.
     Nothing,
 }
@@ -125,6 +126,7 @@ fn call(key: &[u8], values: &[u8]) -> Option<Line> {
             Line::Choose(start as u8, offset as u8, mask as u16)
         }
         b"draw" => Line::Draw(number(values, 4)? as u16),
+        b"reach" => Line::Reach(number(values, 16)?),
         _ => return None,
     })
 }
@@ -190,7 +192,7 @@ pub(crate) fn below(number: u64, limit: usize) -> Option<usize> {
 mod tests {
     use super::*;
 
-    const RIGHT: [&str; 39] = [
+    const RIGHT: [&str; 40] = [
         "",
         "#",
         "#show \r\0",
@@ -223,6 +225,7 @@ mod tests {
         "decode=00000000",
         "choose=f 0 ffff",
         "draw=00ff",
+        "reach=05ffffffffffffff",
         "addg=ffffffffffffffff 0000000000000000 0000000000000010 00000000000000ff",
         "subps=0000000000000000 0000000000000000 0000000000000000",
         "ldg=0000000000000000 0000000000000000 0000000000000000",
@@ -315,6 +318,11 @@ mod tests {
             "x=000000000000000000",
             "x=00\t0000000000000000",
             "choose=00000",
+            "reach",
+            "reach=",
+            "reach=00001000",
+            "reach=0000000000001000 0",
+            "reached=00000000 00000000 0000000000000000",
             "stg=0 0000000000000000 0000000000000000 0000000000000000",
             "stg=4 0000000000000000 0000000000000000 0000000000000000",
             "stg=01 0000000000000000 0000000000000000 0000000000000000",

@@ -27,6 +27,7 @@ pub struct Tally {
     encodings: Codes,
     pub choices: u64,
     pub draws: u64,
+    pub reaches: u64,
     pub states: u64,
     pub beside: Beside,
     /// Cases by the name of their group and by their own.
@@ -94,6 +95,7 @@ impl Tally {
         add_codes(&mut self.encodings, &other.encodings);
         self.choices += other.choices;
         self.draws += other.draws;
+        self.reaches += other.reaches;
         self.states += other.states;
         self.beside.lists += other.beside.lists;
         self.beside.calls += other.beside.calls;
@@ -165,6 +167,7 @@ impl fmt::Display for Tally {
             listed("encodings", self.encodings.clone()),
             counted("choices", self.choices),
             counted("draws", self.draws),
+            counted("reaches", self.reaches),
             counted("states", self.states),
             counted("lists beside the plain machine", self.beside.lists),
             counted("calls in them", self.beside.calls),
@@ -185,10 +188,11 @@ mod tests {
         one.count_word(Some(&FORMS[0]), Code::Done);
         one.count_word(None, Code::Undefined);
         one.draws = 3;
+        one.reaches = 4;
         let mut sum = one.clone();
         sum.add(&one);
         sum.count_word(Some(&FORMS[0]), Code::Setup);
-        let text = "5 words (Done 2, Setup 1, Undefined 2), 6 draws";
+        let text = "5 words (Done 2, Setup 1, Undefined 2), 6 draws, 8 reaches";
         assert_eq!(sum.to_string(), text);
         assert!(sum
             .by_form()

@@ -4,7 +4,7 @@ use super::random::Random;
 use crate::script::MOST_BYTES;
 
 /// A right line of every kind, with letters among its digits where it can.
-const RIGHT: [&str; 37] = [
+const RIGHT: [&str; 38] = [
     "fresh=00000000000abcd0",
     "access=1",
     "exclude=00ef",
@@ -29,6 +29,7 @@ const RIGHT: [&str; 37] = [
     "decode=9adf1020",
     "choose=a b cdef",
     "draw=000f",
+    "reach=0a000000000abcd0",
     "addg=000000000000000a 000000000000000b 0000000000000010 000000000000000c",
     "subg=000000000000000a 000000000000000b 0000000000000010 000000000000000c",
     "subp=000000000000000a 000000000000000b 000000000000000c",
@@ -45,7 +46,7 @@ const RIGHT: [&str; 37] = [
 ];
 
 /// Lines at their limits, right or wrong by one.
-const AT_LIMITS: [&str; 69] = [
+const AT_LIMITS: [&str; 74] = [
     "access=2",
     "access=9",
     "access=a",
@@ -103,6 +104,11 @@ const AT_LIMITS: [&str; 69] = [
     "x=20 0000000000000001",
     "x=ff 0000000000000001",
     "nzcv=100",
+    "reach=ffffffffffffffff",
+    "reach=0ffffffffffffffff",
+    "reach=00000fff",
+    "reach=05 0000000000001000",
+    "reach=0000000000001000 00000010",
     "choose=10 0 0000",
     "choose=0 10 0000",
     "choose=0 0 10000",
@@ -118,7 +124,7 @@ const AT_LIMITS: [&str; 69] = [
 ];
 
 /// Lines of no kind.
-const OF_NO_KIND: [&str; 42] = [
+const OF_NO_KIND: [&str; 46] = [
     " ",
     "\r",
     "\0",
@@ -148,6 +154,10 @@ const OF_NO_KIND: [&str; 42] = [
     "list=",
     "run",
     "run=",
+    "reach",
+    "reach=",
+    "reachable=0000000000001000",
+    "reached=00000000 00000000 0000000000000000",
     "ran=0 00000000",
     "fresh",
     "fresh=",
@@ -333,7 +343,7 @@ mod tests {
     #[test]
     fn the_limits_are_tried_on_both_sides() {
         for key in [
-            "history", "log", "list", "run", "tags", "data", "tag", "byte",
+            "history", "log", "list", "run", "tags", "data", "tag", "byte", "reach",
         ] {
             let of_key = |text: &&&str| text.split('=').next() == Some(key);
             let tried: Vec<_> = AT_LIMITS.iter().filter(of_key).collect();

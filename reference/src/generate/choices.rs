@@ -40,7 +40,7 @@ const WORDS: [u32; 3] = [0x9181_0420, 0xD9E0_0801, 0x9180_4020];
 pub fn kept_bytes(random: &mut Random) -> Script {
     let mut author = Author::default();
     for _ in 0..2_000 {
-        match random.below(24) {
+        match random.below(25) {
             0 if random.one_in(4) => author.fresh(16 * random.below(64)),
             1 => author.line(&format!("dump={}", random.below(2))),
             2 | 3 => author.line(&format!("tags={:08x}", random.below(6))),
@@ -59,6 +59,10 @@ pub fn kept_bytes(random: &mut Random) -> Script {
             }
             21 => author.line(&format!("run={:08x}", random.below(5))),
             22 => author.back(),
+            23 => {
+                let pointer = author.machine().base + random.below(100);
+                author.line(&format!("reach={:016x}", pointer | random.below(16) << 56));
+            }
             _ => author.show(),
         }
     }

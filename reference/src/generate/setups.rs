@@ -23,10 +23,10 @@ const WORDS: [u32; 9] = [
     0xD920_0860, // STG X0, [X3]
 ];
 
-struct Sizes {
-    base: u64,
-    tags: u64,
-    data: u64,
+pub struct Sizes {
+    pub base: u64,
+    pub tags: u64,
+    pub data: u64,
 }
 
 const fn sizes(base: u64, tags: u64, data: u64) -> Sizes {
@@ -63,7 +63,7 @@ const SINGLE_RULES: [(&str, &str); 21] = [
     ("tags=00000005", "data=00000050"),
 ];
 
-fn small_sizes() -> Vec<Sizes> {
+pub fn small_sizes() -> Vec<Sizes> {
     let mut list = Vec::new();
     for tags in [0, 1, 2, 4] {
         let size = 16 * tags;
@@ -84,7 +84,7 @@ fn small_sizes() -> Vec<Sizes> {
     list
 }
 
-const LARGE_SIZES: [Sizes; 14] = [
+pub const LARGE_SIZES: [Sizes; 14] = [
     matching(0, MOST - 1),
     matching(0, MOST),
     matching(0, MOST + 1),
