@@ -6,6 +6,7 @@ use crate::facts::{MALFORMED, RESTORED, RING, RUN, RUNS, STEPS, STEPS_BACK};
 use crate::generate::lists::{self, SLOTS};
 use crate::generate::records::{BITS, ONTO};
 use crate::generate::{rows, WHOLE};
+use crate::reach_facts::{BROKEN, PART, PLACE, REGARDLESS};
 use crate::tally::Tally;
 use crate::words::FORMS;
 
@@ -91,6 +92,50 @@ const RUN_CODES: [(Code, u64); 6] = [
     (Code::Outside, 2000),
 ];
 
+const REACHES: [(&str, &str, u64); 41] = [
+    (PLACE, "no granules", 700),
+    (PLACE, "the first byte", 1000),
+    (PLACE, "the second byte", 150),
+    (PLACE, "the second granule", 200),
+    (PLACE, "the last granule", 600),
+    (PLACE, "the last byte", 400),
+    (PLACE, "within a granule", 6000),
+    (PLACE, "a granule's start", 1500),
+    (PLACE, "a byte before the base", 400),
+    (PLACE, "a granule before the base", 400),
+    (PLACE, "the end", 300),
+    (PLACE, "a byte after the end", 300),
+    (PLACE, "a granule after the end", 300),
+    (PLACE, "bits 63:60 not zero", 5000),
+    (PLACE, "an end at 2^56", 2000),
+    (PLACE, "a carry, at location 0", 400),
+    (PLACE, "a carry, inside", 1000),
+    (PLACE, "far outside", 900),
+    (PART, "nothing", 10_000),
+    (PART, "mismatch at once", 4000),
+    (PART, "mismatch at once, high bits alike", 400),
+    (PART, "high bits of its own tag byte", 2000),
+    (PART, "ended by another tag", 1000),
+    (PART, "ended by another tag, high bits alike", 200),
+    (PART, "up to the end of memory", 2500),
+    (PART, "one byte", 400),
+    (PART, "several granules", 1300),
+    (PART, "all of the memory", 400),
+    (PART, "all of the largest memory", 2),
+    (PART, "a part whose ends show", 2500),
+    (BROKEN, "data one byte off", 40),
+    (BROKEN, "data some bytes off", 100),
+    (BROKEN, "65537 tags", 15),
+    (BROKEN, "more tags", 5),
+    (BROKEN, "base no multiple of 16", 200),
+    (BROKEN, "end beyond 2^56", 40),
+    (BROKEN, "base 2^56 or more", 400),
+    (REGARDLESS, "NZCV", 200),
+    (REGARDLESS, "RGSR's tag", 200),
+    (REGARDLESS, "the cursor", 200),
+    (REGARDLESS, "tag access", 1500),
+];
+
 /// A line for each count that is below its minimum. With so many times as
 /// many random scripts there must be so many times as much.
 pub fn wanting(tally: &Tally, times: u64) -> Vec<String> {
@@ -98,6 +143,7 @@ pub fn wanting(tally: &Tally, times: u64) -> Vec<String> {
     counts.lists();
     counts.calls();
     counts.records();
+    counts.reaches();
     for group in [STEPS, RUNS, STEPS_BACK] {
         CURSORS
             .iter()
@@ -187,6 +233,14 @@ impl Counts<'_> {
         (0..64).for_each(|bit| self.case(BITS, &format!("{bit:02}"), 300));
     }
 
+    fn reaches(&mut self) {
+        self.many("reaches", self.tally.reaches, 20_000);
+        for (group, name, minimum) in REACHES {
+            self.case(group, name, minimum);
+        }
+        (0..16).for_each(|tag| self.case(PART, &format!("tag {tag:x}"), 60));
+    }
+
     /// Of cases that more random scripts make more of.
     pub(crate) fn case(&mut self, group: &str, name: &str, minimum: u64) {
         let count = self.tally.cases(group, name);
@@ -225,6 +279,8 @@ mod tests {
             "runs: 4096 words, the last refused: 0, at least 1 are wanted",
             "steps back, BadRecord: 0, at least 15000 are wanted",
             "rows of the paper: S1 and two steps back: 0, at least 1 are wanted",
+            "reaches: 0, at least 20000 are wanted",
+            "not reached: 65537 tags: 0, at least 15 are wanted",
         ] {
             assert!(nothing.iter().any(|line| line == name), "{name}");
         }
