@@ -40,36 +40,47 @@ type Outcome = Result<String, String>;
 
 fn main() -> ExitCode {
     let arguments: Vec<OsString> = env::args_os().skip(1).collect();
-    let outcome = match arguments.as_slice() {
-        [name] if name == "tag-choice" => tag_choice(),
-        [name] if name == "word-code" => word_code(),
-        [name] if name == "play" => return answer_standard_input(|script| play(script).output),
-        [name] if name == "answer-session" => return answer_standard_input(session::answer),
-        [name] if name == "bench-loop" => {
-            return answer_standard_input(|workload| bench::answer(workload).into_bytes())
-        }
-        [name, program] if name == "bench" => time_beside_loop(Path::new(program)),
-        [name, program, options @ ..] if name == "replay" || name == "session" => {
-            let Some((times, seed)) = options_of(options) else {
-                return misuse();
-            };
-            let program = Path::new(program);
-            match name == "replay" {
-                true => replay_scripts(program, times, seed),
-                false => compare_sessions(program, times, seed),
-            }
-        }
-        _ => return misuse(),
-    };
-    match outcome {
-        Ok(summary) => {
+    if let Some(answer) = answering(&arguments) {
+        return answer_standard_input(answer);
+    }
+    match compared(&arguments) {
+        Some(Ok(summary)) => {
             println!("{summary}");
             ExitCode::SUCCESS
         }
-        Err(difference) => {
+        Some(Err(difference)) => {
             println!("{difference}");
             ExitCode::FAILURE
         }
+        None => misuse(),
+    }
+}
+
+/// What standard input is answered with, if these arguments ask for that.
+fn answering(arguments: &[OsString]) -> Option<fn(&[u8]) -> Vec<u8>> {
+    match arguments {
+        [name] if name == "play" => Some(|script| play(script).output),
+        [name] if name == "answer-session" => Some(session::answer),
+        [name] if name == "bench-loop" => Some(|workload| bench::answer(workload).into_bytes()),
+        _ => None,
+    }
+}
+
+/// How a comparison or the benchmark went, if these arguments ask for one.
+fn compared(arguments: &[OsString]) -> Option<Outcome> {
+    match arguments {
+        [name] if name == "tag-choice" => Some(tag_choice()),
+        [name] if name == "word-code" => Some(word_code()),
+        [name, program] if name == "bench" => Some(time_beside_loop(Path::new(program))),
+        [name, program, options @ ..] if name == "replay" => {
+            let (times, seed) = options_of(options)?;
+            Some(replay_scripts(Path::new(program), times, seed))
+        }
+        [name, program, options @ ..] if name == "session" => {
+            let (times, seed) = options_of(options)?;
+            Some(compare_sessions(Path::new(program), times, seed))
+        }
+        _ => None,
     }
 }
 
@@ -140,7 +151,7 @@ fn time_beside_loop(program: &Path) -> Outcome {
     bench::bench(program, &own)
 }
 
-fn answer_standard_input(answer: impl Fn(&[u8]) -> Vec<u8>) -> ExitCode {
+fn answer_standard_input(answer: fn(&[u8]) -> Vec<u8>) -> ExitCode {
     let mut input = Vec::new();
     let read = io::stdin().read_to_end(&mut input);
     let written = read.and_then(|_| io::stdout().write_all(&answer(&input)));

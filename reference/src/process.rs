@@ -17,16 +17,47 @@ pub struct Ended {
     pub elapsed: Duration,
 }
 
-/// Of the output no more is read than asked for. The threads that feed the
-/// program and read from it are left to themselves if it is killed: another
-/// process may hold its pipes open.
 pub fn run(
     command: &mut Command,
     input: &[u8],
     most_output: usize,
     limit: Duration,
 ) -> io::Result<Ended> {
-    let input = input.to_vec();
+    let whole = Feed {
+        pieces: vec![input.to_vec()],
+        pause: Duration::ZERO,
+    };
+    run_fed(command, whole, most_output, limit)
+}
+
+/// An input that comes to the program piece by piece, with a pause between,
+/// so that no single read gets all of it.
+pub struct Feed {
+    pub pieces: Vec<Vec<u8>>,
+    pub pause: Duration,
+}
+
+impl Feed {
+    fn write(&self, stdin: &mut impl Write) -> io::Result<()> {
+        for (number, piece) in self.pieces.iter().enumerate() {
+            if number > 0 {
+                thread::sleep(self.pause);
+            }
+            stdin.write_all(piece)?;
+        }
+        Ok(())
+    }
+}
+
+/// Of the output no more is read than asked for. The threads that feed the
+/// program and read from it are left to themselves if it is killed: another
+/// process may hold its pipes open.
+pub fn run_fed(
+    command: &mut Command,
+    feed: Feed,
+    most_output: usize,
+    limit: Duration,
+) -> io::Result<Ended> {
     let start = Instant::now();
     let mut child = command
         .stdin(Stdio::piped())
@@ -35,7 +66,7 @@ pub fn run(
     let mut stdin = child.stdin.take().expect("stdin is piped");
     let stdout = child.stdout.take().expect("stdout is piped");
     // A program may stop reading early, as of a script that is too long.
-    thread::spawn(move || stdin.write_all(&input).ok());
+    thread::spawn(move || feed.write(&mut stdin).ok());
     let (sender, receiver) = mpsc::channel();
     thread::spawn(move || {
         let mut output = Vec::new();
@@ -103,6 +134,21 @@ mod tests {
         let script = "sleep 5 & exec sleep 600";
         let ended = run(Command::new("sh").args(["-c", script]), b"", 100, SHORT);
         assert!(ended.expect("sh runs").status.is_none());
+    }
+
+    #[test]
+    fn pieces_come_one_after_another() {
+        let feed = || Feed {
+            pieces: vec![b"one".to_vec(), b"two".to_vec()],
+            pause: Duration::from_millis(500),
+        };
+        let ended = run_fed(&mut Command::new("cat"), feed(), 100, LONG);
+        assert_eq!(ended.expect("cat runs").output, b"onetwo");
+        // One read gets one piece.
+        let mut reads_once = Command::new("dd");
+        reads_once.args(["bs=100", "count=1", "status=none"]);
+        let ended = run_fed(&mut reads_once, feed(), 100, LONG);
+        assert_eq!(ended.expect("dd runs").output, b"one");
     }
 
     #[test]

@@ -4,6 +4,7 @@
 mod changes;
 mod drafts;
 mod facts;
+mod inputs;
 mod lengths;
 pub mod minima;
 mod wrong_lines;
@@ -12,39 +13,18 @@ use std::path::Path;
 use std::process::Command;
 use std::time::Duration;
 
-use crate::generate::random::Random;
-use crate::plan::{Job, Plan};
-use crate::process::{run, Ended};
+use crate::plan::Job;
+use crate::process::{run_fed, Ended, Feed};
 use crate::session::{answer, Session};
 use crate::tally::Tally;
 use crate::trials::{try_all, Failure, Summary, Trial};
-use wrong_lines::{Way, WAYS};
-
-/// The kinds of input.
-mod kinds {
-    pub const SOUND: &str = "sound sessions";
-    pub const BROKEN: &str = "broken bases";
-    pub const CUT: &str = "cut short";
-    pub const CHANGED: &str = "a byte changed";
-    pub const DELETED: &str = "a byte deleted";
-    pub const INSERTED: &str = "a byte inserted";
-    pub const ASTRAY: &str = "bytes astray";
-    pub const LINES: &str = "lines astray";
-    pub const WRONG_LINES: &str = "a wrong line";
-    pub const WRONG_ANYWHERE: &str = "a wrong line anywhere";
-    pub const MANY_WORDS: &str = "many words";
-    pub const LENGTHS: &str = "edge lengths";
-    pub const VERY_LONG: &str = "very long";
-}
-
-/// The group of cases by the way in which a line was made wrong.
-const WRONG: &str = "wrong lines";
-/// The same by the code that else were answered.
-const INSTEAD_OF: &str = "a wrong line instead of";
+pub use inputs::jobs;
 
 /// An input with what must be answered.
 pub struct Case {
     input: Vec<u8>,
+    /// Where the input is cut into pieces that come one after another.
+    cuts: Vec<usize>,
     answer: Vec<u8>,
     tally: Tally,
 }
@@ -56,6 +36,7 @@ impl Case {
         facts::count(&mut tally, &input);
         Case {
             input,
+            cuts: Vec::new(),
             answer,
             tally,
         }
@@ -63,6 +44,17 @@ impl Case {
 
     fn of_session(session: &Session) -> Case {
         Case::of(drafts::ended(&drafts::lines(session)))
+    }
+
+    fn feed(&self) -> Feed {
+        let edges = [&[0], self.cuts.as_slice(), &[self.input.len()]].concat();
+        let pieces = edges.windows(2);
+        Feed {
+            pieces: pieces
+                .map(|edges| self.input[edges[0]..edges[1]].to_vec())
+                .collect(),
+            pause: PAUSE,
+        }
     }
 }
 
@@ -82,136 +74,11 @@ impl Trial for Case {
     }
 }
 
-/// All inputs there are, with so many times as many random ones.
-pub fn jobs(times: u64) -> Vec<Job<Case>> {
-    let mut plan = Plan::default();
-    let random_text =
-        |make: fn(&mut Random) -> Vec<u8>| move |random: &mut Random| Case::of(make(random));
-    plan.random(kinds::SOUND, 1500 * times, |random: &mut Random| {
-        Case::of_session(&drafts::sound(random))
-    });
-    plan.random(kinds::BROKEN, 300 * times, |random: &mut Random| {
-        Case::of_session(&drafts::broken(random))
-    });
-    every_byte(&mut plan);
-    plan.random(kinds::CUT, 100 * times, random_text(changes::cut_anywhere));
-    plan.random(
-        kinds::ASTRAY,
-        400 * times,
-        random_text(changes::bytes_astray),
-    );
-    every_line(&mut plan);
-    plan.random(
-        kinds::LINES,
-        100 * times,
-        random_text(changes::lines_astray),
-    );
-    every_wrong_line(&mut plan);
-    plan.random(kinds::WRONG_ANYWHERE, 600 * times, wrong_line_anywhere);
-    many_words(&mut plan);
-    for length in lengths::edge_lengths() {
-        for shape in lengths::SHAPES {
-            plan.once(kinds::LENGTHS, move |_| Case::of(shape(length)));
-        }
-    }
-    for text in lengths::very_long() {
-        plan.once(kinds::VERY_LONG, move |_| Case::of(text.clone()));
-    }
-    plan.random(kinds::VERY_LONG, 4 * times, random_text(lengths::garbage));
-    plan.jobs()
-}
-
-/// Every beginning of the good session, and every place of it with a byte
-/// changed (twice), deleted and inserted.
-fn every_byte(plan: &mut Plan<Case>) {
-    use changes::{byte_changed, byte_deleted, byte_inserted, good};
-    let length = good().len();
-    for place in 0..=length {
-        plan.once(kinds::CUT, move |_| Case::of(good()[..place].to_vec()));
-        plan.once(kinds::INSERTED, move |random| {
-            Case::of(byte_inserted(random, good(), place))
-        });
-    }
-    for place in 0..length {
-        plan.random(kinds::CHANGED, 2, move |random: &mut Random| {
-            Case::of(byte_changed(random, good(), place))
-        });
-        plan.once(kinds::DELETED, move |_| {
-            Case::of(byte_deleted(good(), place))
-        });
-    }
-}
-
-fn every_line(plan: &mut Plan<Case>) {
-    use changes::{line_doubled, line_dropped, lines_swapped, GOOD};
-    for place in 0..GOOD.len() {
-        plan.once(kinds::LINES, move |_| Case::of(line_doubled(place)));
-        plan.once(kinds::LINES, move |_| Case::of(line_dropped(place)));
-        let other = (place + 1) % GOOD.len();
-        plan.once(kinds::LINES, move |_| Case::of(lines_swapped(place, other)));
-    }
-}
-
-/// Every way to be wrong on every line of the good session, and on words at
-/// the ends of one with the most words and of one with one too many.
-fn every_wrong_line(plan: &mut Plan<Case>) {
-    for words in [8, 256, 257] {
-        let lines = wrong_lines::with_words(words);
-        for place in wrong_lines::places(lines.len()) {
-            for way in WAYS.iter().filter(|way| way.applies_to(lines[place])) {
-                let lines = lines.clone();
-                plan.once(kinds::WRONG_LINES, move |_| wrong(way, &lines, place));
-            }
-        }
-    }
-    for end in wrong_lines::ENDS {
-        let text = wrong_lines::all_ended_by(end);
-        plan.once(kinds::WRONG_LINES, move |_| Case::of(text.clone()));
-    }
-}
-
-fn wrong(way: &Way, lines: &[impl AsRef<str>], place: usize) -> Case {
-    let mut case = Case::of(way.with_wrong(lines, place));
-    case.tally.count_case(WRONG, way.name);
-    case
-}
-
-/// A line of any session, its base broken or not, made wrong in any way.
-fn wrong_line_anywhere(random: &mut Random) -> Case {
-    let session = match random.below(4) {
-        0 => drafts::broken(random),
-        _ => drafts::sound(random),
-    };
-    let (code, _, _) = session.run();
-    let lines = drafts::lines(&session);
-    let place = random.below(lines.len() as u64) as usize;
-    let ways: Vec<&Way> = WAYS
-        .iter()
-        .filter(|way| way.applies_to(&lines[place]))
-        .collect();
-    let mut case = wrong(random.pick(&ways), &lines, place);
-    case.tally.count_case(INSTEAD_OF, &format!("{code:?}"));
-    case
-}
-
-fn many_words(plan: &mut Plan<Case>) {
-    for words in (0..5).chain(250..=300) {
-        plan.once(kinds::MANY_WORDS, move |_| Case::of(lengths::moving(words)));
-        plan.once(kinds::MANY_WORDS, move |_| {
-            Case::of(lengths::moving_to_undefined(words + 1))
-        });
-    }
-    for words in [0, 1, 8, 254, 255, 256, 257] {
-        for tail in lengths::TAILS {
-            plan.once(kinds::MANY_WORDS, move |_| {
-                Case::of(lengths::with_tail(words, tail))
-            });
-        }
-    }
-}
-
 /// How long a program may take for one input.
 const LIMIT: Duration = Duration::from_secs(20);
+/// Between two pieces of an input. Long enough for a program to start and to
+/// read what is there.
+const PAUSE: Duration = Duration::from_millis(8);
 /// Of an answer that is too long, no more than this is read.
 const TOO_MUCH: usize = 4096;
 
@@ -229,7 +96,8 @@ pub fn compare(
 /// always ends normally.
 fn complaint(program: &Path, case: &Case, limit: Duration) -> Option<String> {
     let most_output = case.answer.len() + TOO_MUCH;
-    let ended = run(&mut Command::new(program), &case.input, most_output, limit);
+    let mut command = Command::new(program);
+    let ended = run_fed(&mut command, case.feed(), most_output, limit);
     let fault = match ended {
         Err(error) => return Some(format!("{} cannot be run: {error}", program.display())),
         Ok(Ended { status: None, .. }) => {
@@ -317,6 +185,15 @@ mod tests {
     }
 
     #[test]
+    fn pieces_make_up_the_input() {
+        let mut case = Case::of(b"abcdef".to_vec());
+        assert_eq!(case.feed().pieces, [b"abcdef"]);
+        case.cuts = vec![0, 2, 6];
+        let pieces: [&[u8]; 4] = [b"", b"ab", b"cdef", b""];
+        assert_eq!(case.feed().pieces, pieces);
+    }
+
+    #[test]
     fn another_answer_is_shown_with_the_input() {
         let wrong = Program::new("wrong", "echo bad=0002");
         let text = wrong.complaint(&Case::of(b"\n\xFF".to_vec()));
@@ -365,7 +242,7 @@ input, 2 bytes:
     fn a_wrong_program_fails_and_its_input_is_kept() {
         let wrong = Program::new("always-bad", "echo bad=0001");
         let mut jobs = jobs(1);
-        jobs.retain(|job| job.kind == kinds::CUT && job.number < 30);
+        jobs.retain(|job| job.kind == inputs::kinds::CUT && job.number < 30);
         let Err(failure) = compare(&wrong.0, &jobs, 7, 2) else {
             panic!("not every line is the first");
         };

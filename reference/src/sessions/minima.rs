@@ -2,15 +2,15 @@
 //! making a case is found out.
 
 use super::facts::{code_and_access, BASE, CODE, EXCLUDE, GRANULES, NAMED, WORDS};
+use super::inputs::{kinds, INSTEAD_OF, WRONG};
 use super::wrong_lines::WAYS;
-use super::{kinds, INSTEAD_OF, WRONG};
 use crate::code::Code;
 use crate::minima::Counts;
 use crate::trials::Summary;
 use crate::words::FORMS;
 
 /// The inputs of a kind that are made once, and those that are random.
-const KINDS: [(&str, u64, u64); 13] = [
+const KINDS: [(&str, u64, u64); 14] = [
     (kinds::SOUND, 0, 1500),
     (kinds::BROKEN, 0, 300),
     (kinds::CUT, 261, 100),
@@ -24,6 +24,7 @@ const KINDS: [(&str, u64, u64); 13] = [
     (kinds::MANY_WORDS, 250, 0),
     (kinds::LENGTHS, 400, 0),
     (kinds::VERY_LONG, 32, 4),
+    (kinds::PIECES, 0, 60),
 ];
 
 const CODES: [(Code, u64); 6] = [
