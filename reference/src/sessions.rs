@@ -89,17 +89,17 @@ pub fn compare(
     seed: u64,
     threads: usize,
 ) -> Result<Summary, Failure> {
-    try_all(jobs, seed, threads, |case| complaint(program, case, LIMIT))
+    try_all(jobs, seed, threads, |case| {
+        complaint(&mut Command::new(program), case, LIMIT)
+    })
 }
 
 /// Why one input failed, or nothing. The manual promises that the program
 /// always ends normally.
-fn complaint(program: &Path, case: &Case, limit: Duration) -> Option<String> {
+fn complaint(program: &mut Command, case: &Case, limit: Duration) -> Option<String> {
     let most_output = case.answer.len() + TOO_MUCH;
-    let mut command = Command::new(program);
-    let ended = run_fed(&mut command, case.feed(), most_output, limit);
-    let fault = match ended {
-        Err(error) => return Some(format!("{} cannot be run: {error}", program.display())),
+    let fault = match run_fed(program, case.feed(), most_output, limit) {
+        Err(error) => return Some(format!("{program:?} cannot be run: {error}")),
         Ok(Ended { status: None, .. }) => {
             format!("not ended after {} s, and killed", limit.as_secs())
         }
@@ -143,33 +143,11 @@ fn shown(name: &str, text: &[u8]) -> String {
 #[cfg(test)]
 mod tests {
     use super::*;
-    use std::env;
     use std::fs;
-    use std::os::unix::fs::PermissionsExt;
-    use std::path::PathBuf;
 
-    /// A program that is a shell script, kept in a file of its own.
-    struct Program(PathBuf);
-
-    impl Program {
-        fn new(name: &str, script: &str) -> Program {
-            let name = format!("reference-{}-{name}", std::process::id());
-            let file = env::temp_dir().join(name);
-            fs::write(&file, format!("#!/bin/sh\n{script}\n")).expect("the script is written");
-            let executable = fs::Permissions::from_mode(0o755);
-            fs::set_permissions(&file, executable).expect("the script is made executable");
-            Program(file)
-        }
-
-        fn complaint(&self, case: &Case) -> Option<String> {
-            complaint(&self.0, case, LIMIT)
-        }
-    }
-
-    impl Drop for Program {
-        fn drop(&mut self) {
-            fs::remove_file(&self.0).ok();
-        }
+    /// What is said of a shell script.
+    fn of_script(script: &str, case: &Case) -> Option<String> {
+        complaint(Command::new("sh").args(["-c", script]), case, LIMIT)
     }
 
     fn long_case() -> Case {
@@ -178,10 +156,10 @@ mod tests {
 
     #[test]
     fn a_program_need_not_read_its_input() {
-        let closing = Program::new("closing", "exec <&-; echo bad=0001");
-        assert_eq!(closing.complaint(&long_case()), None);
-        let reading_later = Program::new("reading-later", "echo bad=0001; cat >/dev/null");
-        assert_eq!(reading_later.complaint(&long_case()), None);
+        let closing = "exec <&-; echo bad=0001";
+        assert_eq!(of_script(closing, &long_case()), None);
+        let reading_later = "echo bad=0001; cat >/dev/null";
+        assert_eq!(of_script(reading_later, &long_case()), None);
     }
 
     #[test]
@@ -195,8 +173,7 @@ mod tests {
 
     #[test]
     fn another_answer_is_shown_with_the_input() {
-        let wrong = Program::new("wrong", "echo bad=0002");
-        let text = wrong.complaint(&Case::of(b"\n\xFF".to_vec()));
+        let text = of_script("echo bad=0002", &Case::of(b"\n\xFF".to_vec()));
         let expected = "another answer
 program, 9 bytes:
   bad=0002\\n
@@ -206,26 +183,26 @@ input, 2 bytes:
   \\n
   \\xff";
         assert_eq!(text.as_deref(), Some(expected));
-        let more = Program::new("more", "echo bad=0001; echo");
-        assert!(more.complaint(&long_case()).is_some());
+        assert!(of_script("echo bad=0001; echo", &long_case()).is_some());
     }
 
     #[test]
     fn a_program_must_end_normally() {
-        let failing = Program::new("failing", "echo bad=0001; exit 1");
-        let text = failing.complaint(&long_case()).unwrap_or_default();
+        let failing = of_script("echo bad=0001; exit 1", &long_case());
+        let text = failing.unwrap_or_default();
         assert!(
             text.starts_with("right answer, but exit status: 1\n"),
             "{text}"
         );
-        let hanging = Program::new("hanging", "echo bad=0001; exec sleep 600");
-        let text = complaint(&hanging.0, &long_case(), Duration::from_millis(300));
-        let text = text.unwrap_or_default();
+        let mut sleeping = Command::new("sleep");
+        let short = Duration::from_millis(300);
+        let hanging = complaint(sleeping.arg("600"), &long_case(), short);
+        let text = hanging.unwrap_or_default();
         assert!(
             text.starts_with("not ended after 0 s, and killed\n"),
             "{text}"
         );
-        let missing = complaint(Path::new("/no/such/program"), &long_case(), LIMIT);
+        let missing = complaint(&mut Command::new("/no/such/program"), &long_case(), LIMIT);
         assert!(missing.is_some_and(|text| text.contains("cannot be run")));
     }
 
@@ -240,17 +217,15 @@ input, 2 bytes:
 
     #[test]
     fn a_wrong_program_fails_and_its_input_is_kept() {
-        let wrong = Program::new("always-bad", "echo bad=0001");
+        // `cat` gives the input back.
         let mut jobs = jobs(1);
-        jobs.retain(|job| job.kind == inputs::kinds::CUT && job.number < 30);
-        let Err(failure) = compare(&wrong.0, &jobs, 7, 2) else {
-            panic!("not every line is the first");
+        jobs.retain(|job| job.kind == inputs::kinds::CUT && job.number == 22);
+        let Err(failure) = compare(Path::new("cat"), &jobs, 7, 2) else {
+            panic!("cat answers no sessions");
         };
         let text = failure.to_string();
-        assert!(
-            text.starts_with("cut short, session 22, seed 7: another answer\n"),
-            "{text}"
-        );
+        let begin = "cut short, session 22, seed 7: another answer\nprogram, 22 bytes:\n  base=";
+        assert!(text.starts_with(begin), "{text}");
         let kept = fs::read(&failure.file).expect("the input is kept");
         assert_eq!(kept, changes::good()[..22]);
         fs::remove_file(&failure.file).expect("the input can be removed");

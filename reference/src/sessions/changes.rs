@@ -25,9 +25,6 @@ pub const GOOD: [&str; 17] = [
     "word=d93ff400",
 ];
 
-/// The lines before GOOD's words.
-pub const GOOD_SETTINGS: usize = 9;
-
 pub fn good() -> Vec<u8> {
     ended(&GOOD)
 }
@@ -123,7 +120,7 @@ pub fn lines_astray(random: &mut Random) -> Vec<u8> {
 #[cfg(test)]
 mod tests {
     use super::*;
-    use crate::session::{answer, read};
+    use crate::session::{answer, read, SETTINGS};
 
     #[test]
     fn the_good_session_is_answered() {
@@ -141,12 +138,12 @@ mod tests {
 
     #[test]
     fn lines_in_another_order_are_wrong() {
-        for place in 0..GOOD_SETTINGS {
+        for place in 0..SETTINGS.len() {
             assert_eq!(read(&lines_swapped(place, place + 1)), Err(place + 1));
             assert_eq!(read(&line_doubled(place)), Err(place + 2));
             assert_eq!(read(&line_dropped(place)), Err(place + 1));
         }
-        for place in GOOD_SETTINGS..GOOD.len() {
+        for place in SETTINGS.len()..GOOD.len() {
             assert!(read(&line_doubled(place)).is_ok());
             assert!(read(&line_dropped(place)).is_ok());
         }

@@ -1,10 +1,11 @@
 //! Inputs of many words, with something after the last line, of certain
 //! lengths, and very long ones.
 
-use super::changes::{good, GOOD, GOOD_SETTINGS};
+use super::changes::{good, GOOD};
 use super::drafts::ended;
 use super::wrong_lines::with_words;
 use crate::generate::random::Random;
+use crate::session::SETTINGS;
 
 /// The bytes of the longest session.
 pub const LONGEST: usize = 3732;
@@ -12,7 +13,7 @@ const MIB: usize = 1 << 20;
 
 /// GOOD's settings with so many times this word.
 fn with_word(word: &str, count: usize) -> Vec<u8> {
-    let mut text = ended(&GOOD[..GOOD_SETTINGS]);
+    let mut text = ended(&GOOD[..SETTINGS.len()]);
     text.extend(format!("word={word}\n").repeat(count).into_bytes());
     text
 }
@@ -133,7 +134,7 @@ pub fn very_long() -> Vec<Vec<u8>> {
         vec![0; 3 * MIB],
         vec![0xFF; 3 * MIB],
     ];
-    for place in 0..=GOOD_SETTINGS {
+    for place in 0..=SETTINGS.len() {
         let key = GOOD[place].split('=').next().expect("a key");
         let endless = format!("{key}={}", "0".repeat(MIB)).into_bytes();
         let begin = then(ended(&GOOD[..place]), endless);

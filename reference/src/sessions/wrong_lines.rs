@@ -1,6 +1,6 @@
 //! Every way that is tried in which one line can be wrong.
 
-use super::changes::{GOOD, GOOD_SETTINGS};
+use super::changes::GOOD;
 use super::drafts::ended;
 use crate::session::SETTINGS;
 
@@ -196,7 +196,7 @@ impl Way {
 
 /// GOOD with so many words, its own again and again.
 pub fn with_words(count: usize) -> Vec<&'static str> {
-    let (settings, words) = GOOD.split_at(GOOD_SETTINGS);
+    let (settings, words) = GOOD.split_at(SETTINGS.len());
     let words = words.iter().cycle().take(count);
     settings.iter().chain(words).copied().collect()
 }
@@ -219,7 +219,7 @@ pub const ENDS: [&[u8]; 10] = [
 pub fn places(lines: usize) -> Vec<usize> {
     match lines {
         0..=20 => (0..lines).collect(),
-        _ => vec![GOOD_SETTINGS, GOOD_SETTINGS + 1, lines - 2, lines - 1],
+        _ => vec![SETTINGS.len(), SETTINGS.len() + 1, lines - 2, lines - 1],
     }
 }
 
