@@ -37,6 +37,8 @@ const LONG: u64 = 20;
 
 /// What to print: a summary, or a difference.
 type Outcome = Result<String, String>;
+/// From standard input to standard output.
+type Answer = fn(&[u8]) -> Vec<u8>;
 
 fn main() -> ExitCode {
     let arguments: Vec<OsString> = env::args_os().skip(1).collect();
@@ -57,7 +59,7 @@ fn main() -> ExitCode {
 }
 
 /// What standard input is answered with, if these arguments ask for that.
-fn answering(arguments: &[OsString]) -> Option<fn(&[u8]) -> Vec<u8>> {
+fn answering(arguments: &[OsString]) -> Option<Answer> {
     match arguments {
         [name] if name == "play" => Some(|script| play(script).output),
         [name] if name == "answer-session" => Some(session::answer),
@@ -151,7 +153,7 @@ fn time_beside_loop(program: &Path) -> Outcome {
     bench::bench(program, &own)
 }
 
-fn answer_standard_input(answer: fn(&[u8]) -> Vec<u8>) -> ExitCode {
+fn answer_standard_input(answer: Answer) -> ExitCode {
     let mut input = Vec::new();
     let read = io::stdin().read_to_end(&mut input);
     let written = read.and_then(|_| io::stdout().write_all(&answer(&input)));

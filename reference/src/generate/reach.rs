@@ -20,15 +20,17 @@ fn fill(author: &mut Author, random: &mut Random, places: impl Iterator<Item = u
     places.for_each(|place| author.byte(place, (1 + (salt + 37 * place) % 255) as u8));
 }
 
-/// Tag bytes in runs of equal tags, with any bits above them.
+/// Tag bytes in runs of equal tags. The bits above a tag are often the tag
+/// of the run before, so that a whole byte or its upper half misleads.
 fn tag_runs(author: &mut Author, random: &mut Random, granules: u64) {
     let mut tag = random.below(16);
     for index in 0..granules {
+        let last = tag;
         if random.one_in(3) {
             tag = random.below(16);
         }
-        let above = random.pick(&[0, 0, 0x10, 0x50, 0xF0]) | tag << 4 * random.below(2);
-        author.tag(index, (above & 0xF0 | tag) as u8);
+        let above = random.pick(&[0, 0, 1, 15, last]);
+        author.tag(index, (above << 4 | tag) as u8);
     }
 }
 
