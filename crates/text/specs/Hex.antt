@@ -1,7 +1,7 @@
 -- Numbers of a fixed count of lower-case hex digits, read and written (document 01, "The session program"; docs/MANUAL.md).
 use Prim.Native.Nat.{ℕ, zero, suc, _+_, _-_, _*_, _/_, _%_}
 use mathlib.Core.Bool.{cond}
-use mathlib.Core.List.{List, [], _∷_, _++_}
+use mathlib.Core.List.{List, [], _∷_, _++_, map}
 use lib.Dec.{ltb, leb}
 use Rattle.text.specs.declared.Hex.{Hex}
 use Rattle.text.specs.declared.Hex.the-variants.{Value, NotHex}
@@ -24,3 +24,16 @@ readHex (suc n) v (b ∷ l) = cond (ltb (valueOf b) 16) (readHex n (v * 16 + val
 unfoldable pub hexDigits : ℕ → ℕ → List ℕ
 hexDigits zero v = []
 hexDigits (suc n) v = hexDigits n (v / 16) ++ (digitOf (v % 16) ∷ [])
+
+-- the digit of the low four bits of each byte
+unfoldable pub digitsText : List ℕ → List ℕ
+digitsText t = map (λ (b : ℕ). digitOf (b % 16)) t
+
+-- the low four bits of each byte
+unfoldable pub lowBits : List ℕ → List ℕ
+lowBits t = map (λ (b : ℕ). b % 16) t
+
+-- the numbers of the digits that a list begins with, up to the first byte that is none
+unfoldable pub digitsIn : List ℕ → List ℕ
+digitsIn [] = []
+digitsIn (b ∷ l) = cond (ltb (valueOf b) 16) (valueOf b ∷ digitsIn l) []

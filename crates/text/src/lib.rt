@@ -1,16 +1,23 @@
-// Texts of keys and hex numbers: a key and a number of a fixed count of lower-case digits, each read at a place of a text and
-// put at one. What has a `requires` is public because the other crates call it with places that they know to be in range.
+// Texts of keys and hex numbers: a key, a number of a fixed count of lower-case digits, and a line of both, each read at a place
+// of a text and put at one. What has a `requires` is public because the other crates call it with places that they know to be
+// in range and with counts of digits that they fix.
 ghost use mathlib.Core.Path.{_≡_};
 ghost use Prim.Native.Nat.{_+_, _≤_, _<_};
 ghost use lib.ListN.{length, drop};
 ghost use lib.Seq.{sets};
-ghost use Rattle.text.specs.Hex.{valueOf, digitOf, readHex, hexDigits};
-ghost use Rattle.text.specs.Lines.{starts};
+ghost use Rattle.text.specs.Hex.{valueOf, digitOf, readHex, hexDigits, digitsText};
+ghost use Rattle.text.specs.Lines.{starts, framed, lineAt, lineText, digitsLine};
 
 // What some bytes spell.
 pub enum Hex {
     Value(u64),
     NotHex,
+}
+
+// What stands at a place: a line with its number and the place after it.
+pub enum Line {
+    Is { value: u64, next: usize },
+    Wrong,
 }
 
 // The number of a lower-case hex digit, and 16 of any other byte.
@@ -72,6 +79,47 @@ pub fn key_at(s: &[u8], at: usize, key: &[u8]) -> bool
     true
 }
 
+// Whether the key, n bytes and a line feed stand at at.
+fn frame(s: &[u8], at: usize, key: &[u8], n: usize) -> bool
+    requires { ⌜ n ≤ 16 ⌝ }
+    ensures { λ r. ⌜ r ≡ framed (now (key .entry)) n (now (s .entry)) at ⌝ }
+{
+    let size = key.len() + n + 1;
+    if s.len() < size {
+        return false;
+    }
+    if s.len() - size < at {
+        return false;
+    }
+    if !key_at(s, at, key) {
+        return false;
+    }
+    s[at + key.len() + n] == b'\n'
+}
+
+// The line at at: the key, n digits of a number of at most most, a line feed. The place may be any; the count of digits is the
+// caller's and fits a number.
+pub fn line_at(s: &[u8], at: usize, key: &[u8], n: usize, most: u64) -> Line
+    requires { ⌜ n ≤ 16 ⌝ }
+    ensures { λ r. ⌜ r ≡ lineAt (now (key .entry)) n most (now (s .entry)) at ⌝ }
+{
+    if !frame(s, at, key, n) {
+        return Line::Wrong;
+    }
+    let digits = at + key.len();
+    match hex_at(s, digits, n) {
+        Hex::Value(v) => if v <= most {
+            Line::Is {
+                value: v,
+                next: digits + n + 1,
+            }
+        } else {
+            Line::Wrong
+        },
+        Hex::NotHex => Line::Wrong,
+    }
+}
+
 // Puts the last n hex digits of v at at.
 pub fn put_hex(out: &mut [u8], at: usize, n: usize, v: u64)
     requires { ⌜ at + n ≤ length (now out) ⌝ }
@@ -96,4 +144,42 @@ pub fn put_bytes(out: &mut [u8], at: usize, t: &[u8])
         out[at + i] = t[i];
         i += 1;
     }
+}
+
+// Puts the digit of the low four bits of each byte of t at at.
+fn put_digits(out: &mut [u8], at: usize, t: &[u8])
+    requires { ⌜ at + length (now t) ≤ length (now out) ⌝ }
+    ensures { λ _. ⌜ now (out .exit) ≡ sets (now (out .entry)) at (digitsText (now (t .entry))) ⌝ }
+{
+    let mut i = 0;
+    while i < t.len() {
+        out[at + i] = digit((t[i] % 16) as u64);
+        i += 1;
+    }
+}
+
+// Puts the line of a number of n digits at at, and answers the place after it.
+pub fn put_line(out: &mut [u8], at: usize, key: &[u8], n: usize, v: u64) -> usize
+    requires { ⌜ at + (length (now key) + n + 1) ≤ length (now out) ⌝ }
+    ensures { λ r. ⌜ r ≡ at + (length (now (key .entry)) + n + 1) ⌝ }
+    ensures { λ _. ⌜ now (out .exit) ≡ sets (now (out .entry)) at (lineText (now (key .entry)) n v) ⌝ }
+{
+    put_bytes(out, at, key);
+    let digits = at + key.len();
+    put_hex(out, digits, n, v);
+    out[digits + n] = b'\n';
+    digits + n + 1
+}
+
+// Puts the line of one digit for each byte of t at at, and answers the place after it.
+pub fn put_digits_line(out: &mut [u8], at: usize, key: &[u8], t: &[u8]) -> usize
+    requires { ⌜ at + (length (now key) + length (now t) + 1) ≤ length (now out) ⌝ }
+    ensures { λ r. ⌜ r ≡ at + (length (now (key .entry)) + length (now (t .entry)) + 1) ⌝ }
+    ensures { λ _. ⌜ now (out .exit) ≡ sets (now (out .entry)) at (digitsLine (now (key .entry)) (now (t .entry))) ⌝ }
+{
+    put_bytes(out, at, key);
+    let digits = at + key.len();
+    put_digits(out, digits, t);
+    out[digits + t.len()] = b'\n';
+    digits + t.len() + 1
 }
