@@ -1,4 +1,5 @@
 -- Laws of the definitions, for the proofs here and in the crates above.
+pub mod Framing
 pub mod Reading
 pub mod Round
 pub mod Writing
