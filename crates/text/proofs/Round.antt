@@ -1,14 +1,22 @@
--- What is written reads back: the n digits of a number below 16 ^ n, with anything behind them, spell the number. Assumes nothing.
+-- What is written reads back: the n digits of a number below 16 ^ n, with anything behind them, and a line, wherever it stands.
+-- Assumes nothing.
 use mathlib.Core.Path.{_≡_, refl, ap, sym, _∙_}
 use mathlib.Core.Bool.{Bool, true, false}
-use mathlib.Core.List.{List, _∷_, _++_, append-assoc}
+use mathlib.Core.List.{List, [], _∷_, _++_, append-assoc}
+use mathlib.Core.Option.{some}
 use Prim.Native.Nat.{ℕ, zero, suc, _+_, _*_, _/_, _%_, _^_, _≤_, _<_}
-use native.Mathlib.Nat.{zero-add, pow-suc, mul-assoc}
+use native.Mathlib.Nat.{zero-add, add-assoc, pow-suc, mul-assoc}
 use native.Mathlib.Omega.{arith}
 use lib.Dec.{ltb}
-use borrow.Author.Tests.{lt-ltb, le-ltb, le-leb, lt-leb, ltb-true, ltb-false}
-use Rattle.text.specs.Hex.{valueOf, digitOf, readHex, hexDigits}
+use lib.ListN.{length, getD, drop, length-append, length-map}
+use lib.Seq.{drop-append-seam, drop-append-add, getD-append-add, getD-at}
+use borrow.Author.Tests.{lt-ltb, le-ltb, le-leb, lt-leb, eq-eqb, ltb-true, ltb-false}
+use Rattle.text.specs.Hex.{valueOf, digitOf, readHex, hexDigits, digitsText, digitsIn, lowBits}
+use Rattle.text.specs.Lines.{starts, framed, capped, lineAt, lineText, digitsLine, digitsLineAt}
 use Rattle.text.specs.declared.Hex.the-variants.{Value}
+use Rattle.text.specs.declared.Line.the-variants.{Is}
+use Rattle.text.proofs.Framing.{frame-end, line-framed, capped-is}
+use Rattle.text.proofs.Writing.{length-digits, length-digits-text}
 
 low-back : (v : ℕ) → v < 10 → valueOf (digitOf v) ≡ v
 unfolding valueOf digitOf
@@ -55,3 +63,60 @@ number-back n v l h =
     let e : 0 * 16 ^ n + v ≡ v = omega arith in
     let z : n + 0 ≡ n = omega arith in
     ap (λ (k : ℕ). readHex k 0 (hexDigits n v ++ l)) (sym z) ∙ digits-back n 0 0 v l h ∙ ap Value e
+
+starts-self : (key l : List ℕ) → starts key (key ++ l) ≡ true
+unfolding starts
+starts-self [] l = refl
+starts-self (k ∷ key) l = rw (eq-eqb k k refl) (starts-self key l)
+
+-- a key, n digits and a line feed that stand behind any list
+module _ (key before digits behind : List ℕ) (n : ℕ) (long : length digits ≡ n) where
+  abbrev standing : List ℕ
+  standing = before ++ (key ++ (digits ++ (10 ∷ behind)))
+
+  at-digits : drop (length before + length key) standing ≡ digits ++ (10 ∷ behind)
+  at-digits = drop-append-add before (key ++ (digits ++ (10 ∷ behind))) (length key) ∙ drop-append-seam key (digits ++ (10 ∷ behind))
+
+  at-end : getD standing (length before + length key + n) 0 ≡ 10
+  at-end =
+      ap (λ (i : ℕ). getD standing i 0) (add-assoc (length before) (length key) n)
+      ∙ getD-append-add before (key ++ (digits ++ (10 ∷ behind))) (length key + n) 0
+      ∙ getD-append-add key (digits ++ (10 ∷ behind)) n 0
+      ∙ getD-at digits 10 behind 0 n long
+
+  frame-back : framed key n standing (length before) ≡ true
+  frame-back =
+      let size : length standing ≡ length before + (length key + (n + suc (length behind))) = simp (length-append, long) in
+      let there : starts key (drop (length before) standing) ≡ true = rw (drop-append-seam before) (starts-self key (digits ++ (10 ∷ behind))) in
+      frame-end key n standing (length before) (omega arith) there ∙ eq-eqb _ _ at-end
+
+-- the line of a number that is put is read, wherever it stands
+pub line-back : (key : List ℕ) (n most v : ℕ) (before behind : List ℕ) → v < 16 ^ n → v ≤ most
+    → lineAt key n most (before ++ (lineText key n v ++ behind)) (length before) ≡ Is v (length before + (length key + n + 1))
+unfolding lineText
+line-back key n most v before behind h k =
+    let digits : List ℕ = hexDigits n v in
+    let s : List ℕ = standing key before digits behind n (length-digits n v) in
+    let number : readHex n 0 (drop (length before + length key) s) ≡ Value v = rw (at-digits key before digits behind n (length-digits n v)) (number-back n v (10 ∷ behind) h) in
+    rw (append-assoc, append-assoc)
+    (line-framed key n most s (length before) (frame-back key before digits behind n (length-digits n v))
+    ∙ ap (capped most (length before + (length key + n + 1))) number
+    ∙ capped-is most (length before + (length key + n + 1)) v k)
+
+digits-in-back : (t l : List ℕ) → digitsIn (digitsText t ++ (10 ∷ l)) ≡ lowBits t
+unfolding digitsText digitsIn lowBits valueOf
+digits-in-back [] l = refl
+digits-in-back (b ∷ t) l =
+    let small : b % 16 < 16 = omega arith in
+    rw (digit-back (b % 16) small, lt-ltb (b % 16) 16 small) (ap (λ (r : List ℕ). b % 16 ∷ r) (digits-in-back t l))
+
+-- the line of digits that is put is read as the low four bits of each byte, wherever it stands
+pub digits-line-back : (key t before behind : List ℕ)
+    → digitsLineAt key (length t) (before ++ (digitsLine key t ++ behind)) (length before) ≡ some (lowBits t)
+unfolding digitsLine digitsLineAt
+digits-line-back key t before behind =
+    let digits : List ℕ = digitsText t in
+    let numbers : digitsIn (drop (length before + length key) (standing key before digits behind (length t) (length-digits-text t))) ≡ lowBits t
+    = rw (at-digits key before digits behind (length t) (length-digits-text t)) (digits-in-back t behind) in
+    let long : length (lowBits t) ≡ length t = unfold lowBits in rw length-map in
+    rw (append-assoc, append-assoc, frame-back key before digits behind (length t) (length-digits-text t), numbers, eq-eqb _ _ long)
