@@ -69,26 +69,27 @@ unfolding starts
 starts-self [] l = refl
 starts-self (k ∷ key) l = rw (eq-eqb k k refl) (starts-self key l)
 
--- a key, n digits and a line feed that stand behind any list
-module _ (key before digits behind : List ℕ) (n : ℕ) (long : length digits ≡ n) where
+-- a key, digits and a line feed between any two lists
+module _ (before key digits behind : List ℕ) where
   abbrev standing : List ℕ
   standing = before ++ (key ++ (digits ++ (10 ∷ behind)))
 
   at-digits : drop (length before + length key) standing ≡ digits ++ (10 ∷ behind)
   at-digits = drop-append-add before (key ++ (digits ++ (10 ∷ behind))) (length key) ∙ drop-append-seam key (digits ++ (10 ∷ behind))
 
-  at-end : getD standing (length before + length key + n) 0 ≡ 10
-  at-end =
-      ap (λ (i : ℕ). getD standing i 0) (add-assoc (length before) (length key) n)
-      ∙ getD-append-add before (key ++ (digits ++ (10 ∷ behind))) (length key + n) 0
-      ∙ getD-append-add key (digits ++ (10 ∷ behind)) n 0
-      ∙ getD-at digits 10 behind 0 n long
+  module _ (n : ℕ) (long : length digits ≡ n) where
+    at-end : getD standing (length before + length key + n) 0 ≡ 10
+    at-end =
+        ap (λ (i : ℕ). getD standing i 0) (add-assoc (length before) (length key) n)
+        ∙ getD-append-add before (key ++ (digits ++ (10 ∷ behind))) (length key + n) 0
+        ∙ getD-append-add key (digits ++ (10 ∷ behind)) n 0
+        ∙ getD-at digits 10 behind 0 n long
 
-  frame-back : framed key n standing (length before) ≡ true
-  frame-back =
-      let size : length standing ≡ length before + (length key + (n + suc (length behind))) = simp (length-append, long) in
-      let there : starts key (drop (length before) standing) ≡ true = rw (drop-append-seam before) (starts-self key (digits ++ (10 ∷ behind))) in
-      frame-end key n standing (length before) (omega arith) there ∙ eq-eqb _ _ at-end
+    frame-back : framed key n standing (length before) ≡ true
+    frame-back =
+        let size : length standing ≡ length before + (length key + (n + suc (length behind))) = simp (length-append, long) in
+        let there : starts key (drop (length before) standing) ≡ true = rw (drop-append-seam before) (starts-self key (digits ++ (10 ∷ behind))) in
+        frame-end key n standing (length before) (omega arith) there ∙ eq-eqb _ _ at-end
 
 -- the line of a number that is put is read, wherever it stands
 pub line-back : (key : List ℕ) (n most v : ℕ) (before behind : List ℕ) → v < 16 ^ n → v ≤ most
@@ -96,10 +97,10 @@ pub line-back : (key : List ℕ) (n most v : ℕ) (before behind : List ℕ) →
 unfolding lineText
 line-back key n most v before behind h k =
     let digits : List ℕ = hexDigits n v in
-    let s : List ℕ = standing key before digits behind n (length-digits n v) in
-    let number : readHex n 0 (drop (length before + length key) s) ≡ Value v = rw (at-digits key before digits behind n (length-digits n v)) (number-back n v (10 ∷ behind) h) in
+    let s : List ℕ = standing before key digits behind in
+    let number : readHex n 0 (drop (length before + length key) s) ≡ Value v = rw (at-digits before key digits behind) (number-back n v (10 ∷ behind) h) in
     rw (append-assoc, append-assoc)
-    (line-framed key n most s (length before) (frame-back key before digits behind n (length-digits n v))
+    (line-framed key n most s (length before) (frame-back before key digits behind n (length-digits n v))
     ∙ ap (capped most (length before + (length key + n + 1))) number
     ∙ capped-is most (length before + (length key + n + 1)) v k)
 
@@ -116,7 +117,7 @@ pub digits-line-back : (key t before behind : List ℕ)
 unfolding digitsLine digitsLineAt
 digits-line-back key t before behind =
     let digits : List ℕ = digitsText t in
-    let numbers : digitsIn (drop (length before + length key) (standing key before digits behind (length t) (length-digits-text t))) ≡ lowBits t
-    = rw (at-digits key before digits behind (length t) (length-digits-text t)) (digits-in-back t behind) in
+    let numbers : digitsIn (drop (length before + length key) (standing before key digits behind)) ≡ lowBits t
+    = rw (at-digits before key digits behind) (digits-in-back t behind) in
     let long : length (lowBits t) ≡ length t = unfold lowBits in rw length-map in
-    rw (append-assoc, append-assoc, frame-back key before digits behind (length t) (length-digits-text t), numbers, eq-eqb _ _ long)
+    rw (append-assoc, append-assoc, frame-back before key digits behind (length t) (length-digits-text t), numbers, eq-eqb _ _ long)
