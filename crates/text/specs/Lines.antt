@@ -43,4 +43,5 @@ digitsLine key t = key ++ (digitsText t ++ (10 ∷ []))
 -- the numbers of the n digits of the line at place at; none where it is no such line
 unfoldable pub digitsLineAt : List ℕ → ℕ → List ℕ → ℕ → Option (List ℕ)
 digitsLineAt key n s at =
-    cond (framed key n s at && eqb (length (digitsIn (drop (at + length key) s))) n) (some (digitsIn (drop (at + length key) s))) none
+    let digits : List ℕ = digitsIn (drop (at + length key) s) in
+    cond (framed key n s at && eqb (length digits) n) (some digits) none
