@@ -1,0 +1,2 @@
+pub mod ReachablePart
+pub mod Longest
