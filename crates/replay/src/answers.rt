@@ -7,6 +7,7 @@ use super::numbers::low_byte;
 use super::numbers::low_half;
 use super::numbers::low_word;
 use super::player::Player;
+use super::reached;
 use super::writer::put_line;
 use isa::Decoded;
 ghost use Rattle.replay.specs.Buffer.{Filled};
@@ -215,6 +216,27 @@ fn put_drawn(seed: u64, out: &mut [u8], filled: usize) -> usize
     )
 }
 
+fn put_reached(
+    player: Player,
+    pointer: u64,
+    tags: &[u8],
+    data: &[u8],
+    out: &mut [u8],
+    filled: usize,
+) -> usize
+    requires { ⌜ Filled filled (now out) ⌝ }
+    ensures { λ r. ⌜ Filled r (now (out .exit)) ⌝ }
+{
+    let t = at_most(player.tags, tags.len());
+    let d = at_most(player.data, data.len());
+    let base = player.machine.settings.base;
+    put_line(
+        out,
+        filled,
+        reached::line_of(pointer, base, &data[..d], &tags[..t]),
+    )
+}
+
 // Puts the answer to a line, given the player after it.
 pub(crate) fn put_answer(
     player: Player,
@@ -241,6 +263,7 @@ pub(crate) fn put_answer(
         kinds::DECODE => put_decoded(values[0], out, filled),
         kinds::CHOOSE => put_chosen(values, out, filled),
         kinds::DRAW => put_drawn(values[0], out, filled),
+        kinds::REACH => put_reached(player, values[0], tags, data, out, filled),
         _ => filled,
     }
 }

@@ -53,42 +53,46 @@ pub(crate) const CHOOSE: u64 = 23;
 
 pub(crate) const DRAW: u64 = 24;
 
+pub(crate) const REACH: u64 = 25;
+
 // The forms.
-pub(crate) const ADDG: u64 = 25;
+pub(crate) const ADDG: u64 = 26;
 
-pub(crate) const SUBG: u64 = 26;
+pub(crate) const SUBG: u64 = 27;
 
-pub(crate) const SUBP: u64 = 27;
+pub(crate) const SUBP: u64 = 28;
 
-pub(crate) const SUBPS: u64 = 28;
+pub(crate) const SUBPS: u64 = 29;
 
-pub(crate) const IRG: u64 = 29;
+pub(crate) const IRG: u64 = 30;
 
-pub(crate) const GMI: u64 = 30;
+pub(crate) const GMI: u64 = 31;
 
-pub(crate) const LDG: u64 = 31;
+pub(crate) const LDG: u64 = 32;
 
-pub(crate) const STG: u64 = 32;
+pub(crate) const STG: u64 = 33;
 
-pub(crate) const STZG: u64 = 33;
+pub(crate) const STZG: u64 = 34;
 
-pub(crate) const ST2G: u64 = 34;
+pub(crate) const ST2G: u64 = 35;
 
-pub(crate) const STZ2G: u64 = 35;
+pub(crate) const STZ2G: u64 = 36;
 
-pub(crate) const STGP: u64 = 36;
+pub(crate) const STGP: u64 = 37;
 
 // The answers, which no script has.
-pub(crate) const CODE: u64 = 37;
+pub(crate) const CODE: u64 = 38;
 
-pub(crate) const RAN: u64 = 38;
+pub(crate) const RAN: u64 = 39;
 
-pub(crate) const DECODED: u64 = 39;
+pub(crate) const DECODED: u64 = 40;
 
-pub(crate) const ENCODED: u64 = 40;
+pub(crate) const ENCODED: u64 = 41;
 
-pub(crate) const CHOSEN: u64 = 41;
+pub(crate) const CHOSEN: u64 = 42;
 
-pub(crate) const DRAWN: u64 = 42;
+pub(crate) const DRAWN: u64 = 43;
 
-pub(crate) const BAD: u64 = 43;
+pub(crate) const REACHED: u64 = 44;
+
+pub(crate) const BAD: u64 = 45;

@@ -65,7 +65,8 @@ fn call_shape(kind: u64) -> Shape {
         kinds::SHOW => row(*b"show    ", 4, [0, 0, 0, 0, 0]),
         kinds::DECODE => row(*b"decode  ", 6, [8, 0, 0, 0, 0]),
         kinds::CHOOSE => row(*b"choose  ", 6, [1, 1, 4, 0, 0]),
-        _ => row(*b"draw    ", 4, [4, 0, 0, 0, 0]),
+        kinds::DRAW => row(*b"draw    ", 4, [4, 0, 0, 0, 0]),
+        _ => row(*b"reach   ", 5, [16, 0, 0, 0, 0]),
     }
 }
 
@@ -94,6 +95,7 @@ fn answer_shape(kind: u64) -> Shape {
         kinds::ENCODED => row(*b"encoded ", 7, [1, 8, 0, 0, 0]),
         kinds::CHOSEN => row(*b"chosen  ", 6, [1, 0, 0, 0, 0]),
         kinds::DRAWN => row(*b"drawn   ", 5, [1, 4, 0, 0, 0]),
+        kinds::REACHED => row(*b"reached ", 7, [8, 8, 16, 0, 0]),
         _ => row(*b"bad     ", 3, [8, 0, 0, 0, 0]),
     }
 }

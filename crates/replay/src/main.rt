@@ -16,6 +16,7 @@ mod kinds;
 mod lines;
 mod numbers;
 mod player;
+mod reached;
 mod reader;
 mod writer;
 
