@@ -7,6 +7,7 @@ use super::numbers::low_half;
 use super::numbers::low_word;
 use machine::Machine;
 use simulator::Answer;
+use simulator::Ran;
 
 // The most tag bytes, data bytes and history words that a script can give the machine, and words that it can list.
 pub(crate) const MOST_TAGS: usize = 0x1_0010;
@@ -145,55 +146,44 @@ fn list_stored(player: Player, index: u64, value: u64, list: &mut [u32]) -> Play
     w
 }
 
-fn answered(player: Player, answer: Answer) -> Player {
-    let mut w = player;
+fn stepped(answer: Answer) -> Ran {
     let code = answer.code;
     let machine = answer.machine;
-    w.machine = machine;
-    w.code = code.number();
-    w
+    Ran {
+        code,
+        count: 0,
+        machine,
+    }
 }
 
-fn ran(
-    player: Player,
-    count: u64,
+// Steps, runs the listed words or steps back.
+fn call(
+    machine: Machine,
+    kind: u64,
+    word: u32,
     tags: &mut [u8],
     data: &mut [u8],
     history: &mut [u64],
     list: &[u32],
-) -> Player {
-    let before = player.machine;
-    let n = at_most(count as usize, list.len());
-    let end = simulator::run(before, &list[..n], data, tags, history);
+) -> Ran {
+    match kind {
+        kinds::WORD => stepped(simulator::step(machine, word, data, tags, history)),
+        kinds::RUN => simulator::run(machine, list, data, tags, history),
+        _ => stepped(simulator::step_back(machine, data, tags, history)),
+    }
+}
+
+fn answered(player: Player, end: Ran) -> Player {
+    let mut w = player;
     let code = end.code;
     let machine = end.machine;
-    let mut w = answered(player, Answer { code, machine });
+    w.machine = machine;
+    w.code = code.number();
     w.count = end.count;
     w
 }
 
-// Steps, runs or steps back.
-fn call(
-    player: Player,
-    kind: u64,
-    number: u64,
-    tags: &mut [u8],
-    data: &mut [u8],
-    history: &mut [u64],
-    list: &[u32],
-) -> Player {
-    let before = player.machine;
-    match kind {
-        kinds::WORD => answered(
-            player,
-            simulator::step(before, low_word(number), data, tags, history),
-        ),
-        kinds::RUN => ran(player, number, tags, data, history, list),
-        _ => answered(player, simulator::step_back(before, data, tags, history)),
-    }
-}
-
-// The player after a call, which is lent the parts of the memories that are the machine's.
+// The player after a call, which is lent the parts of the memories that are the machine's, and as many listed words as a run takes.
 fn called(
     player: Player,
     kind: u64,
@@ -203,18 +193,21 @@ fn called(
     history: &mut [u64],
     list: &[u32],
 ) -> Player {
+    let before = player.machine;
     let t = at_most(player.tags, tags.len());
     let d = at_most(player.data, data.len());
     let h = at_most(player.history, history.len());
-    call(
-        player,
+    let n = at_most(number as usize, list.len());
+    let end = call(
+        before,
         kind,
-        number,
+        low_word(number),
         &mut tags[..t],
         &mut data[..d],
         &mut history[..h],
-        list,
-    )
+        &list[..n],
+    );
+    answered(player, end)
 }
 
 fn with_register(player: Player, number: u64, value: u64) -> Player {

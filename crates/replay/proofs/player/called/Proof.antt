@@ -15,6 +15,12 @@ at-most-requires-2 c κs = search needs
 at-most-requires-3 : tie.Need-at-most-requires-3
 at-most-requires-3 c κs = search needs
 
+at-most-requires-4 : tie.Need-at-most-requires-4
+at-most-requires-4 c κs = search needs
+
+low-word-requires : tie.Need-low-word-requires
+low-word-requires c κs = search needs
+
 slice-relend-prefix-call : tie.Need-slice-relend-prefix-call
 slice-relend-prefix-call c = search needs
 
@@ -33,8 +39,14 @@ slice-relend-prefix-call-3 c = search needs
 slice-aggregate-call-3 : tie.Need-slice-aggregate-call-3
 slice-aggregate-call-3 c = sym (length-take-le _ _ (omega arith))
 
+slice-aggregate-call-4 : tie.Need-slice-aggregate-call-4
+slice-aggregate-call-4 c = sym (length-take-le _ _ (omega arith))
+
 call-requires : tie.Need-call-requires
 call-requires c κs = search needs
+
+answered-requires : tie.Need-answered-requires
+answered-requires c κs = search needs
 
 same-length : tie.Need-same-length
 same-length c = search needs
@@ -55,13 +67,17 @@ called-spec =
     at-most-requires
     at-most-requires-2
     at-most-requires-3
+    at-most-requires-4
+    low-word-requires
     slice-relend-prefix-call
     slice-aggregate-call
     slice-relend-prefix-call-2
     slice-aggregate-call-2
     slice-relend-prefix-call-3
     slice-aggregate-call-3
+    slice-aggregate-call-4
     call-requires
+    answered-requires
     same-length
     same-length-2
     same-length-3
