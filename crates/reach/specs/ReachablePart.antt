@@ -25,7 +25,8 @@ partFrom at tag bytes tags = take (16 * inRow tag (drop (at / 16) tags) - at % 1
 unfoldable pub pointsInside : ℕ → ℕ → List ℕ → List ℕ → Bool
 pointsInside pointer base bytes tags = sizesOk base (length bytes) (length tags) && inside base (length tags) pointer
 
--- outside, or with a broken size or base: an empty part
+-- the part that a pointer reaches; outside, or with a broken size or base, an empty one. Bits 63:60 of the pointer and tag access
+-- play no part
 unfoldable pub reachableOf : ℕ → ℕ → List ℕ → List ℕ → List ℕ
 reachableOf pointer base bytes tags =
     cond (pointsInside pointer base bytes tags) (partFrom (placeOf base pointer) (tagOf pointer) bytes tags) []
