@@ -1,2 +1,3 @@
+pub mod PointerTags
 pub mod RandomBits
 pub mod TagChoice

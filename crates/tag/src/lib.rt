@@ -1,6 +1,7 @@
-// Tag choice, and the random bits of IRG.
+// A pointer's tag, tag choice, and the random bits of IRG.
 ghost use mathlib.Core.Path.{_≡_};
 ghost use Prim.Native.Nat.{_<_};
+ghost use Rattle.tag.specs.PointerTags.{tagOf, withTag};
 ghost use Rattle.tag.specs.RandomBits.{drawn};
 ghost use Rattle.tag.specs.TagChoice.{chosen, masked};
 
@@ -8,6 +9,23 @@ ghost use Rattle.tag.specs.TagChoice.{chosen, masked};
 pub struct Drawn {
     pub bits: u8,
     pub seed: u16,
+}
+
+// A pointer's tag.
+pub fn tag_of(v: u64) -> u8
+    ensures { λ r. ⌜ r ≡ tagOf v ⌝ }
+    ensures { λ r. ⌜ r < 16 ⌝ }
+{
+    bits::field(v, 56, 4) as u8
+}
+
+// A pointer with its tag replaced.
+// Public because the crates above call it, with a tag that they know to be below 16.
+pub fn with_tag(v: u64, tag: u8) -> u64
+    requires { ⌜ tag < 16 ⌝ }
+    ensures { λ r. ⌜ r ≡ withTag v tag ⌝ }
+{
+    bits::put(v, 56, 4, tag as u64)
 }
 
 // Whether the mask has the tag's bit.
