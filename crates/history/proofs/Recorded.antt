@@ -26,24 +26,24 @@ use Rattle.machine.specs.declared.Code.{Code}
 use Rattle.machine.specs.declared.Change.{Change}
 use Rattle.machine.specs.declared.Change.the-variants.{Keep}
 use Rattle.machine.specs.declared.Effect.{Effect}
-use Rattle.machine.specs.declared.Judged.{Judged}
-use Rattle.machine.specs.declared.Judged.the-variants.{Refused, Accepted}
 use Rattle.machine.specs.State.{State, Typed}
 use Rattle.machine.specs.Setup.{sound}
 use Rattle.machine.specs.Registers.{xOrSp}
 use Rattle.machine.specs.Codes.{isDone}
-use Rattle.machine.specs.Accesses.{addressOf, writebackTo, spMisaligned, misaligned}
-use Rattle.machine.specs.TagStores.{isPair}
 use Rattle.machine.specs.Effects.{applied, Within}
 use Rattle.machine.specs.Inverses.{savedWords, oldData, inverseOn}
-use Rattle.machine.specs.Words.{Outcome, wordOutcome}
-use Rattle.machine.specs.Plans.{registerEffect, storeEffect, storePlan, zeroing, placeOf, accept, formPlan, planOf, planOutcome, decodedFits, JudgedWithin}
 use Rattle.machine.proofs.Setup.{state-sized, state-status}
-use Rattle.machine.proofs.Within.{plan-within}
-use Rattle.machine.proofs.Ranges.{plan-register}
 use Rattle.machine.proofs.Undone.{inverse-undoes}
-use Rattle.machine.proofs.Judgement.{fits}
-use Rattle.machine.proofs.Outcomes.{plan-outcome}
+use Rattle.instructions.specs.declared.Judged.{Judged}
+use Rattle.instructions.specs.declared.Judged.the-variants.{Refused, Accepted}
+use Rattle.instructions.specs.Accesses.{addressOf, writebackTo, spMisaligned, misaligned}
+use Rattle.instructions.specs.TagStores.{isPair}
+use Rattle.instructions.specs.Words.{Outcome, wordOutcome}
+use Rattle.instructions.specs.Plans.{registerEffect, storeEffect, storePlan, zeroing, placeOf, accept, formPlan, planOf, planOutcome, decodedFits, JudgedWithin}
+use Rattle.instructions.proofs.Within.{plan-within}
+use Rattle.instructions.proofs.Ranges.{plan-register}
+use Rattle.instructions.proofs.Judgement.{fits}
+use Rattle.instructions.proofs.Outcomes.{plan-outcome}
 use Rattle.history.specs.Records.{Entry, wordsOf, entryIn}
 use Rattle.history.specs.BadRecords.{notZero, valueNotZero, tagsNotZero, dataNotZero, dataOfNone, malformed}
 use Rattle.history.specs.Recording.{zeroes, entryFor, entryOf, recordOf, restored}

@@ -18,8 +18,8 @@ use Rattle.memory.specs.Addresses.{indexOf, named}
 use Rattle.memory.specs.Stores.{savedBytes, tagBytes}
 use Rattle.machine.specs.State.{State, stateOf}
 use Rattle.machine.specs.Registers.{xOrSp, orNone, written}
-use Rattle.machine.specs.Accesses.{addressOf, writebackTo}
-use Rattle.machine.specs.TagStores.{isPair}
+use Rattle.instructions.specs.Accesses.{addressOf, writebackTo}
+use Rattle.instructions.specs.TagStores.{isPair}
 use Rattle.history.specs.Records.{Entry, wordsOf}
 
 -- the register: the destination or writeback target, 32 if there is neither or it is the zero register

@@ -1,5 +1,5 @@
--- Effects: what an accepted word changes, as plain data. They are no notion of document 01: by the law of proofs/Outcomes the
--- effect of a word leaves the state that specs/Words gives.
+-- Effects: what an accepted word changes, as plain data. They are no notion of document 01: by the law of proofs/Outcomes of
+-- `instructions` the effect of a word leaves the state that specs/Words there gives.
 use Prim.Native.Nat.{ℕ, _+_, _*_, _≤_}
 use mathlib.Core.Path.{_≡_}
 use mathlib.Core.Bool.{Bool, true, cond}

@@ -2,14 +2,5 @@ pub mod State
 pub mod Registers
 pub mod Setup
 pub mod Codes
-pub mod Pointers
-pub mod RandomTag
-pub mod Accesses
-pub mod TagLoad
-pub mod TagStores
-pub mod PairStore
-pub mod Words
 pub mod Effects
 pub mod Inverses
-pub mod Plans
-pub mod Edges

@@ -1,4 +1,4 @@
-// The machine: what each word does to it, judged first and then applied, and what undoes that.
+// The machine: its parts, its codes and the rules of its setup; an effect applied to it, and what undoes that.
 ghost use mathlib.Core.Path.{_≡_};
 ghost use mathlib.Core.Bool.{true};
 ghost use Prim.Native.Nat.{_*_};
@@ -6,21 +6,11 @@ ghost use lib.ListN.{length};
 ghost use Rattle.machine.specs.Codes.{codeNumber};
 ghost use Rattle.machine.specs.Effects.{Within, bytesAfter, tagsAfter, xAfter};
 ghost use Rattle.machine.specs.Inverses.{inverse};
-ghost use Rattle.machine.specs.Plans.{decodedFits, judgedCode, planOf};
 ghost use Rattle.machine.specs.Setup.{cursorOk, setupOk, stateOk};
 ghost use Rattle.machine.specs.State.{freshOn};
-use isa::Decoded;
 
-mod accesses;
 mod effects;
-mod forms;
-mod pair_store;
-mod pointers;
-mod random_tag;
-mod register_file;
-mod stores;
-mod tag_load;
-mod tag_stores;
+pub mod register_file;
 
 // What no word changes.
 pub struct Settings {
@@ -88,18 +78,6 @@ pub struct Effect {
     pub change: Change,
 }
 
-// The first granule that an access names, or its refusal.
-pub(crate) enum Placed {
-    First(usize),
-    Nowhere(Code),
-}
-
-// A word's effect, or its refusal.
-pub enum Judged {
-    Refused(Code),
-    Accepted(Effect),
-}
-
 impl Code {
     // The code's number in document 01.
     pub fn number(self) -> u32
@@ -115,18 +93,6 @@ impl Code {
             Code::NoHistory => 6,
             Code::BadRecord => 7,
             Code::Field => 8,
-        }
-    }
-}
-
-impl Judged {
-    // The code: 0 DONE for an effect.
-    pub fn number(self) -> u32
-        ensures { λ r. ⌜ r ≡ judgedCode self ⌝ }
-    {
-        match self {
-            Judged::Refused(code) => code.number(),
-            Judged::Accepted(_) => 0,
         }
     }
 }
@@ -190,25 +156,6 @@ pub fn setup_ok(machine: Machine, bytes: usize, granules: usize, words: usize) -
         return cursor_ok(words / 8, cursor);
     }
     false
-}
-
-// A word's effect, or the refusal of the lowest code that applies, on a setup that keeps the rules. It changes nothing.
-// Public because our own crates call it, with such a setup and a word that was decoded.
-pub fn judge(
-    x: &[u64; 32],
-    settings: Settings,
-    status: Status,
-    tags: &[u8],
-    decoded: Decoded,
-) -> Judged
-    requires { ⌜ stateOk settings status (16 * length (now tags)) (length (now tags)) ≡ true ⌝ }
-    requires { ⌜ decodedFits decoded ≡ true ⌝ }
-    ensures { λ r. ⌜ r ≡ planOf settings (now (x .entry)) status (now (tags .entry)) decoded ⌝ }
-{
-    match decoded {
-        Decoded::Is(form) => forms::judge_form(x, settings, status, tags, form),
-        Decoded::Undefined => Judged::Refused(Code::Undefined),
-    }
 }
 
 // Applies an effect to the registers, the data and the tags; the status after it is the effect's.

@@ -1,9 +1,9 @@
-// Registers by number.
+// Registers by number. Public because `instructions` reads them and names destinations.
 ghost use mathlib.Core.Path.{_≡_};
 ghost use Rattle.machine.specs.Registers.{orNone, written, xOrSp, xOrZero};
 
 // Register n, where 31 is SP.
-pub(crate) fn x_or_sp(x: &[u64; 32], n: u64) -> u64
+pub fn x_or_sp(x: &[u64; 32], n: u64) -> u64
     ensures { λ r. ⌜ r ≡ xOrSp (now (x .entry)) n ⌝ }
 {
     if n < 32 {
@@ -14,7 +14,7 @@ pub(crate) fn x_or_sp(x: &[u64; 32], n: u64) -> u64
 }
 
 // Register n, where 31 reads as zero.
-pub(crate) fn x_or_zero(x: &[u64; 32], n: u64) -> u64
+pub fn x_or_zero(x: &[u64; 32], n: u64) -> u64
     ensures { λ r. ⌜ r ≡ xOrZero (now (x .entry)) n ⌝ }
 {
     if n == 31 {
@@ -24,7 +24,7 @@ pub(crate) fn x_or_zero(x: &[u64; 32], n: u64) -> u64
 }
 
 // Register n as a destination, where 31 drops the write.
-pub(crate) fn or_none(n: u64) -> u64
+pub fn or_none(n: u64) -> u64
     ensures { λ r. ⌜ r ≡ orNone n ⌝ }
 {
     if n == 31 { 32 } else { n }

@@ -11,9 +11,9 @@ use Rattle.machine.specs.declared.Code.the-variants.{NoHistory}
 use Rattle.machine.specs.Codes.{isDone, firstOf}
 use Rattle.machine.specs.Setup.{sound}
 use Rattle.machine.specs.State.{State, Typed}
-use Rattle.machine.specs.Words.{wordOutcome}
-use Rattle.machine.proofs.TypedStates.{word-typed}
-use Rattle.machine.proofs.WellFormed.{word-sound}
+use Rattle.instructions.specs.Words.{wordOutcome}
+use Rattle.instructions.proofs.TypedStates.{word-typed}
+use Rattle.instructions.proofs.WellFormed.{word-sound}
 use Rattle.history.specs.History.{History, capacity}
 use Rattle.history.specs.Recording.{recordOf}
 use Rattle.history.specs.Ring.{pushed, popped}
@@ -123,7 +123,7 @@ module _ (c : ℕ) where
 
 -- From every well-formed setup with an empty history, every list of steps, runs and steps back gets from the simulator of specs/Steps
 -- the codes and counts that it gets from the plain machine of specs/PlainMachine, and both end in one state. A step's code and state
--- are those of machine's specs/Words, in Arm's form; records and ring are those of history's specs/Recording and specs/Ring.
+-- are those of instructions' specs/Words, in Arm's form; records and ring are those of history's specs/Recording and specs/Ring.
 pub demand3 : Demand3 simulator
 unfolding Demand3 logging stacking
 demand3 start typed formed empty list =

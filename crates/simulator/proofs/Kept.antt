@@ -11,8 +11,8 @@ use Rattle.machine.specs.declared.Code.{Code}
 use Rattle.machine.specs.declared.Code.the-variants.{Done, Setup}
 use Rattle.machine.specs.Codes.{isDone, firstOf}
 use Rattle.machine.specs.Setup.{sound, cursorOk, setupOk}
-use Rattle.machine.specs.Words.{Outcome, wordOutcome}
-use Rattle.machine.proofs.WellFormed.{SameShape, word-sound, word-keeps}
+use Rattle.instructions.specs.Words.{Outcome, wordOutcome}
+use Rattle.instructions.proofs.WellFormed.{SameShape, word-sound, word-keeps}
 use Rattle.history.specs.History.{capacity}
 use Rattle.history.specs.Recording.{recordOf}
 use Rattle.history.specs.Ring.{pushed}

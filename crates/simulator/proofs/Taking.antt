@@ -5,17 +5,17 @@ use mathlib.Core.Path.{_≡_, refl}
 use lib.ListN.{length}
 use Rattle.isa.specs.Decoding.{decodeOf}
 use Rattle.machine.specs.declared.Code.the-variants.{Done}
-use Rattle.machine.specs.declared.Judged.{Judged}
-use Rattle.machine.specs.declared.Judged.the-variants.{Refused, Accepted}
 use Rattle.machine.specs.Effects.{applied}
-use Rattle.machine.specs.Plans.{planOf, planOutcome, JudgedWithin}
 use Rattle.machine.specs.Setup.{sound}
 use Rattle.machine.specs.State.{State}
-use Rattle.machine.specs.Words.{wordOutcome}
-use Rattle.machine.proofs.Judgement.{fits}
-use Rattle.machine.proofs.Outcomes.{plan-outcome}
 use Rattle.machine.proofs.Setup.{state-sized}
-use Rattle.machine.proofs.Within.{plan-within}
+use Rattle.instructions.specs.declared.Judged.{Judged}
+use Rattle.instructions.specs.declared.Judged.the-variants.{Refused, Accepted}
+use Rattle.instructions.specs.Plans.{planOf, planOutcome, JudgedWithin}
+use Rattle.instructions.specs.Words.{wordOutcome}
+use Rattle.instructions.proofs.Judgement.{fits}
+use Rattle.instructions.proofs.Outcomes.{plan-outcome}
+use Rattle.instructions.proofs.Within.{plan-within}
 use Rattle.history.specs.History.{capacity}
 use Rattle.history.proofs.Recorded.{plan-refusal, recorded, storable}
 use Rattle.simulator.specs.Simulation.{Simulation, wellFormed}

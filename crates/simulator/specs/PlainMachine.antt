@@ -5,7 +5,7 @@ use lib.ListN.{take}
 use Rattle.machine.specs.declared.Code.the-variants.{NoHistory}
 use Rattle.machine.specs.State.{State}
 use Rattle.machine.specs.Setup.{sound}
-use Rattle.machine.specs.Words.{Outcome, wordOutcome}
+use Rattle.instructions.specs.Words.{Outcome, wordOutcome}
 use Rattle.simulator.specs.Calls.{Out, refused, done, Machine, whenDone, inOrder}
 
 -- its state, and the copies, newest first

@@ -8,7 +8,7 @@ use Rattle.isa.specs.Decoding.{decodeOf}
 use Rattle.machine.specs.declared.Code.{Code}
 use Rattle.machine.specs.declared.Code.the-variants.{Done, Setup, Undefined, SpAlign, Align, Outside, NoHistory, BadRecord, Field}
 use Rattle.machine.specs.Codes.{lowest}
-use Rattle.machine.specs.Words.{Outcome, wordOutcome}
+use Rattle.instructions.specs.Words.{Outcome, wordOutcome}
 use Rattle.history.specs.BadRecords.{malformed}
 use Rattle.history.specs.Records.{entryIn}
 use Rattle.history.specs.Recording.{recordOf, restored}

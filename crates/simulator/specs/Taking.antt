@@ -6,15 +6,15 @@ use mathlib.Core.Path.{_≡_}
 use lib.ListN.{length}
 use Rattle.machine.specs.declared.Code.the-variants.{BadRecord}
 use Rattle.machine.specs.declared.Cursor.{Cursor}
-use Rattle.machine.specs.declared.Judged.{Judged}
-use Rattle.machine.specs.declared.Judged.the-variants.{Accepted}
-use Rattle.machine.specs.declared.Judged.the-variants.{Refused as NoEffect}
 use Rattle.machine.specs.declared.Settings.{Settings}
 use Rattle.machine.specs.declared.Status.{Status}
 use Rattle.machine.specs.Effects.{applied}
 use Rattle.machine.specs.Inverses.{inverse, inverseOn}
-use Rattle.machine.specs.Plans.{IfAccepted}
 use Rattle.machine.specs.State.{stateOf}
+use Rattle.instructions.specs.declared.Judged.{Judged}
+use Rattle.instructions.specs.declared.Judged.the-variants.{Accepted}
+use Rattle.instructions.specs.declared.Judged.the-variants.{Refused as NoEffect}
+use Rattle.instructions.specs.Plans.{IfAccepted}
 use Rattle.history.specs.History.{History}
 use Rattle.history.specs.BadRecords.{malformed}
 use Rattle.history.specs.Recording.{restored}

@@ -7,19 +7,19 @@ ghost use lib.ListN.{drop, length, take};
 ghost use Rattle.history.specs.Records.{wordsOf};
 ghost use Rattle.history.specs.Ring.{pushed};
 ghost use Rattle.history.specs.Undo.{Storable, entryWith};
+ghost use Rattle.instructions.specs.Plans.{JudgedWithin};
 ghost use Rattle.machine.specs.Effects.{Within, applied};
 ghost use Rattle.machine.specs.Inverses.{inverse};
-ghost use Rattle.machine.specs.Plans.{JudgedWithin};
 ghost use Rattle.machine.specs.Setup.{slotsOf};
 ghost use Rattle.machine.specs.State.{withMemory};
 ghost use Rattle.simulator.specs.Calls.{answered, inOrder, left};
 ghost use Rattle.simulator.specs.Simulation.{simulation, wellFormed};
 ghost use Rattle.simulator.specs.Steps.{runOf, stepBackOf, stepOf};
 ghost use Rattle.simulator.specs.Taking.{Carries, JudgedStorable, Placed, Took, gathered, historyOf, undoneBy};
+use instructions::Judged;
 use machine::Code;
 use machine::Cursor;
 use machine::Effect;
-use machine::Judged;
 use machine::Machine;
 use machine::Registers;
 use machine::Settings;
@@ -119,7 +119,7 @@ fn take(
     requires { ⌜ wellFormed (gathered settings (now x) status (now bytes) (now tags) (now history) cursor) ≡ true ⌝ }
     ensures { λ r. ⌜ Took r (gathered settings (now (x .entry)) status (now (bytes .entry)) (now (tags .entry)) (now (history .entry)) cursor) (stepOf (gathered settings (now (x .entry)) status (now (bytes .entry)) (now (tags .entry)) (now (history .entry)) cursor) word) (λ status cursor. gathered settings (now (x .exit)) status (now (bytes .exit)) (now (tags .exit)) (now (history .exit)) cursor) ⌝ }
 {
-    let judged = machine::judge(&*x, settings, status, &tags[..], isa::decode(word));
+    let judged = instructions::judge(&*x, settings, status, &tags[..], isa::decode(word));
     carry(x, status, cursor, judged, bytes, tags, history)
 }
 

@@ -1,8 +1,8 @@
 -- `simulator::take` meets its contract. Assumes nothing.
 use borrow.Author.Needs.{needs}
 use mathlib.Core.Path.{_≡_, ap, _∙_}
-use Rattle.machine.specs.declared.Judged.{Judged}
-use Rattle.machine.proofs.Judgement.{fits}
+use Rattle.instructions.specs.declared.Judged.{Judged}
+use Rattle.instructions.proofs.Judgement.{fits}
 use Rattle.simulator.specs.Simulation.{Simulation}
 use Rattle.simulator.specs.Steps.{stepOf}
 use Rattle.simulator.specs.Taking.{carriedOut, gathered}

@@ -1,0 +1,49 @@
+-- `instructions::stores::judge_store` meets its contract. Assumes nothing.
+use borrow.Author.Needs.{needs}
+use mathlib.Core.Path.{ap}
+use Rattle.instructions.specs.declared.Judged.the-variants.{Accepted}
+use Rattle.instructions.proofs.stores.judge_store.Statement.{statement}
+use Rattle.instructions.proofs.stores.judge_store.Tie as tie
+
+x-or-sp-requires : tie.Need-x-or-sp-requires
+x-or-sp-requires c κs = search needs
+
+address-of-requires : tie.Need-address-of-requires
+address-of-requires c κs = search needs
+
+place-requires : tie.Need-place-requires
+place-requires c κs = search needs
+
+enum-known-i : tie.Need-enum-known-i
+enum-known-i c = search needs
+
+effect-requires : tie.Need-effect-requires
+effect-requires c κs = search needs
+
+enum-known-code : tie.Need-enum-known-code
+enum-known-code c = search needs
+
+returns : tie.Need-returns
+returns c =
+    let found = c .before .before .before .before in
+    let place = rw (found .before .address-of .ensures, found .before .before .x-or-sp .ensures) at (found .place .ensures) in
+    rw (← place, c .before .before .i .given .1) (ap Accepted (c .effect .ensures))
+
+returns-2 : tie.Need-returns-2
+returns-2 c =
+    let found = c .before .before .before in
+    let place = rw (found .before .address-of .ensures, found .before .before .x-or-sp .ensures) at (found .place .ensures) in
+    rw (← place, c .before .code .given .1)
+
+pub judge-store-spec : {M : Type 1} → statement M
+judge-store-spec =
+    tie.close
+    (tie.spec
+    x-or-sp-requires
+    address-of-requires
+    place-requires
+    enum-known-i
+    effect-requires
+    enum-known-code
+    returns
+    returns-2)

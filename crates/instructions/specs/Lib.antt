@@ -1,0 +1,9 @@
+pub mod Pointers
+pub mod RandomTag
+pub mod Accesses
+pub mod TagLoad
+pub mod TagStores
+pub mod PairStore
+pub mod Words
+pub mod Plans
+pub mod Edges
