@@ -1,0 +1,10 @@
+-- Laws of the definitions, for the proofs here.
+pub mod Answers
+pub mod ExactLines
+pub mod GoodSessions
+pub mod LineKinds
+pub mod Lists
+pub mod OnlyGoodSessions
+pub mod Parsing
+pub mod Prefix
+pub mod Printed

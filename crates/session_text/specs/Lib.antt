@@ -1,0 +1,7 @@
+pub mod Inside
+pub mod Kinds
+pub mod Laws
+pub mod Parsing
+pub mod Printing
+pub mod Run
+pub mod Session

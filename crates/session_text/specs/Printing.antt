@@ -1,0 +1,33 @@
+-- What the session program prints (document 01, "The session program").
+use Prim.Native.Nat.{ℕ}
+use mathlib.Core.List.{List, [], _∷_, _++_}
+use lib.ListN.{getD}
+use Rattle.text.specs.Lines.{lineText, digitsLine}
+use Rattle.machine.specs.declared.Code.{Code}
+use Rattle.machine.specs.declared.Registers.{Registers}
+use Rattle.machine.specs.Codes.{codeNumber}
+use Rattle.session_text.specs.Kinds.{lineFor, spKind, x0Kind, x1Kind, x2Kind}
+
+-- bad=, the number of the first wrong, missing, unended or extra line
+unfoldable pub badText : ℕ → List ℕ
+badText number = lineText (98 ∷ 97 ∷ 100 ∷ 61 ∷ []) 4 number
+
+-- done=, how many words were done, and code=
+unfoldable pub answerLines : ℕ → Code → List ℕ
+answerLines count code =
+    lineText (100 ∷ 111 ∷ 110 ∷ 101 ∷ 61 ∷ []) 4 count
+    ++ lineText (99 ∷ 111 ∷ 100 ∷ 101 ∷ 61 ∷ []) 1 (codeNumber code)
+
+-- x0=, x1=, x2= and sp=, as they are read
+unfoldable pub registerLines : List ℕ → List ℕ
+registerLines x =
+    lineFor x0Kind (getD x 0 0)
+    ++ (lineFor x1Kind (getD x 1 0) ++ (lineFor x2Kind (getD x 2 0) ++ lineFor spKind (getD x 31 0)))
+
+-- those lines, nzcv=, and tags= with a digit for each granule
+unfoldable pub reportText : ℕ → Code → Registers → List ℕ → List ℕ
+reportText count code registers tags =
+    answerLines count code
+    ++ (registerLines (registers .x)
+    ++ (lineText (110 ∷ 122 ∷ 99 ∷ 118 ∷ 61 ∷ []) 1 (registers .status .nzcv)
+    ++ digitsLine (116 ∷ 97 ∷ 103 ∷ 115 ∷ 61 ∷ []) tags))
