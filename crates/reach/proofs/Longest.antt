@@ -6,7 +6,7 @@ use mathlib.Core.Path.{_≡_, refl, ap, sym, _∙_}
 use native.Mathlib.Nat.{lt-of-not-le, le-antisymm}
 use native.Mathlib.Omega.{arith}
 use lib.ListN.{length, take, drop, length-take, length-drop}
-use Rattle.machine.specs.Pointers.{tagOf}
+use Rattle.tag.specs.PointerTags.{tagOf}
 use Rattle.reach.specs.ReachablePart.{inRow, placeOf, partFrom, pointsInside, reachableOf}
 use Rattle.reach.specs.Longest.{Carried, Longest, Ends, Reaches, TheReachablePart}
 use Rattle.reach.proofs.Rows.{end-le, carries-from, stops-from}

@@ -10,7 +10,7 @@ use Rattle.memory.specs.Addresses.{location, inside, indexOf, granuleOf}
 use Rattle.memory.specs.Sizes.{sizesOk}
 use Rattle.memory.proofs.Addresses.{inside-range, one-inside, located, all-first}
 use Rattle.memory.proofs.Sizes.{Sized, sized}
-use Rattle.machine.specs.Pointers.{tagOf}
+use Rattle.tag.specs.PointerTags.{tagOf}
 use Rattle.reach.specs.ReachablePart.{inRow, placeOf, partFrom, pointsInside, reachableOf}
 use Rattle.reach.proofs.Rows.{end-le}
 

@@ -5,7 +5,7 @@ use mathlib.Core.Bool.{true, false}
 use mathlib.Core.List.{List, []}
 use mathlib.Core.Path.{_≡_}
 use lib.ListN.{length, take, drop, getD}
-use Rattle.machine.specs.Pointers.{tagOf}
+use Rattle.tag.specs.PointerTags.{tagOf}
 use Rattle.reach.specs.ReachablePart.{placeOf, pointsInside, reachableOf}
 
 -- the granule of a byte of the data carries the tag

@@ -6,7 +6,7 @@ use lib.Dec.{eqb}
 use lib.ListN.{length, take, drop}
 use Rattle.memory.specs.Sizes.{sizesOk}
 use Rattle.memory.specs.Addresses.{location, inside}
-use Rattle.machine.specs.Pointers.{tagOf}
+use Rattle.tag.specs.PointerTags.{tagOf}
 
 -- how many granules in a row, from the first on, carry the tag: a granule's tag is the low four bits of its byte
 unfoldable pub inRow : ℕ → List ℕ → ℕ

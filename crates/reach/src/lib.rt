@@ -38,7 +38,7 @@ pub fn reachable<'a, 'b>(pointer: u64, base: u64, bytes: &'a [u8], tags: &'b [u8
         return none(bytes);
     };
     let at = 16 * first + (pointer % 16) as usize;
-    let end = 16 * row_end(tags, first, bits::field(pointer, 56, 4) as u8);
+    let end = 16 * row_end(tags, first, tag::tag_of(pointer));
     if end <= at {
         return none(bytes);
     }

@@ -63,11 +63,8 @@ mul-at c = omega (arith, here c)
 add-at : tie.Need-add-at
 add-at c = omega (arith, here c)
 
-field-requires : tie.Need-field-requires
-field-requires c κs = search needs
-
-cast-row-end : tie.Need-cast-row-end
-cast-row-end c = search needs
+tag-of-requires : tie.Need-tag-of-requires
+tag-of-requires c κs = search needs
 
 row-end-requires : tie.Need-row-end-requires
 row-end-requires c κs = omega (arith, here (c .before))
@@ -82,7 +79,7 @@ counted c =
     let located = c .before .before in
     let a = located .before .before .before .before .before .before .before .before .args in
     let first = located .before .first .given .0 .0 in
-    let row = rw (c .before .field .ensures) at (c .row-end .ensures) in (
+    let row = rw (c .before .tag-of .ensures .0) at (c .row-end .ensures) in (
       end-within (a .pointer) (a .base) (a .bytes .now) (a .tags .now) first (c .row-end .result) (here located) row,
       counted-part (a .pointer) (a .base) (a .bytes .now) (a .tags .now) first (c .row-end .result) (here located) row,
     )
@@ -127,8 +124,7 @@ reachable-spec =
     returns-2
     mul-at
     add-at
-    field-requires
-    cast-row-end
+    tag-of-requires
     row-end-requires
     mul-end
     none-requires-3
