@@ -1,7 +1,7 @@
 -- An amount of bytes and the field that counts its granules, both ways. Assumes nothing.
 use Prim.Native.Nat.{ℕ, _+_, _-_, _*_, _/_, _%_, _^_, _≤_, _<_}
 use mathlib.Core.Path.{_≡_, refl, ap, _∙_}
-use mathlib.Core.Bool.{Bool, true, false, cond, _&&_, _||_}
+use mathlib.Core.Bool.{Bool, true, false, cond, _&&_, _||_, and-eq-true-iff}
 use native.Mathlib.Nat.{add-mul, add-mul-mod-self-right, mod-eq-of-lt}
 use native.Mathlib.Omega.{arith}
 use lib.Dec.{ltb, leb, eqb}
@@ -10,7 +10,6 @@ use borrow.Author.Tests.{eq-eqb, lt-ltb, le-ltb, le-leb, lt-leb, ltb-true, ltb-f
 use Rattle.isa.specs.Words.{granuleCount}
 use Rattle.isa.specs.Decoding.{signedAmount}
 use Rattle.isa.specs.Encoding.{amountIn}
-use Rattle.isa.proofs.Fits.{and-left, and-right}
 
 -- the two ways to be in range, to an amount and from it
 
@@ -25,19 +24,19 @@ in-cases : (low high amount : ℕ) → amountIn low high amount ≡ true → (P 
     → (amount % 16 ≡ 0 → amount < 2 ^ 64 → 2 ^ 64 - low ≤ amount → P)
     → P
 in-cases low high amount h P f g =
-    go (leb amount high) refl (and-right (eqb (amount % 16) 0) (leb amount high || above) h)
+    go (leb amount high) refl (and-eq-true-iff (eqb (amount % 16) 0) (leb amount high || above) .0 h .1)
   where
     above : Bool
     above = ltb amount (2 ^ 64) && leb (2 ^ 64 - low) amount
 
     whole : amount % 16 ≡ 0
-    whole = eqb-true (amount % 16) 0 (and-left (eqb (amount % 16) 0) (leb amount high || above) h)
+    whole = eqb-true (amount % 16) 0 (and-eq-true-iff (eqb (amount % 16) 0) (leb amount high || above) .0 h .0)
 
     go : (t : Bool) → leb amount high ≡ t → (t || above) ≡ true → P
     go true e k = f whole (leb-true amount high e)
     go false e k =
-        g whole (ltb-true amount (2 ^ 64) (and-left (ltb amount (2 ^ 64)) (leb (2 ^ 64 - low) amount) k))
-        (leb-true (2 ^ 64 - low) amount (and-right (ltb amount (2 ^ 64)) (leb (2 ^ 64 - low) amount) k))
+        g whole (ltb-true amount (2 ^ 64) (and-eq-true-iff (ltb amount (2 ^ 64)) (leb (2 ^ 64 - low) amount) .0 k .0))
+        (leb-true (2 ^ 64 - low) amount (and-eq-true-iff (ltb amount (2 ^ 64)) (leb (2 ^ 64 - low) amount) .0 k .1))
 
 -- unsigned amounts
 

@@ -2,7 +2,7 @@
 -- form's fixed bits, and bits 31:22 leave few forms. Assumes nothing.
 use Prim.Native.Nat.{ℕ, zero, suc, _+_, _*_, _^_, _<_}
 use mathlib.Core.Path.{_≡_, refl, ap, sym, _∙_}
-use mathlib.Core.Bool.{Bool, true, false, cond, _&&_, and-false, false≢true}
+use mathlib.Core.Bool.{Bool, true, false, cond, _&&_, and-false, false≢true, and-eq-true-iff}
 use native.Mathlib.Omega.{arith}
 use lib.Dec.{eqb, eqb·suc-zero}
 use borrow.Author.Tests.{eq-eqb, ne-eqb, eqb-true}
@@ -22,7 +22,6 @@ use Rattle.isa.specs.Words.{addSubBits, twoSourceBits, ldgBits, tagStore
 use Rattle.isa.specs.Decoding.{signedAmount, addSubAt, twoSourceAt, ldgAt, tagStoreAt, stgpAt, formsAt, formOf, decodeOf}
 use Rattle.isa.specs.DecodingBranches.{ifBit21, addSubBranch, twoSourceBranch, subpsBranch, ldgBranch, modeBranch}
 use Rattle.isa.proofs.Amounts.{unsigned-count, imm9-count, simm7-count}
-use Rattle.isa.proofs.Fits.{and-left, and-right}
 use Rattle.isa.proofs.Table.{addSubTop, twoSourceTop, opcode, tagStoreTop, stgpTop, add-sub-parts, two-source-parts, tag-store-parts, mode-small, stgp-parts}
 
 -- an equation that says the same as others, as a test
@@ -39,16 +38,16 @@ module _ {a b x y : ℕ} where
     two-tests : (a ≡ b → (x ≡ y) × (u ≡ v)) × (x ≡ y → u ≡ v → a ≡ b) → eqb a b ≡ (eqb x y && eqb u v)
     two-tests s =
         iff a b (eqb x y && eqb u v) (λ e. simp (eq-eqb x y (s .0 e .0), eq-eqb u v (s .0 e .1)))
-        (λ t. s .1 (eqb-true x y (and-left (eqb x y) (eqb u v) t)) (eqb-true u v (and-right (eqb x y) (eqb u v) t)))
+        (λ t. s .1 (eqb-true x y (and-eq-true-iff (eqb x y) (eqb u v) .0 t .0)) (eqb-true u v (and-eq-true-iff (eqb x y) (eqb u v) .0 t .1)))
 
     three-tests : {p q : ℕ} → (a ≡ b → (x ≡ y) × (u ≡ v) × (p ≡ q)) × (x ≡ y → u ≡ v → p ≡ q → a ≡ b)
         → eqb a b ≡ (eqb x y && (eqb u v && eqb p q))
     three-tests {p} {q} s =
         iff a b (eqb x y && (eqb u v && eqb p q))
         (λ e. simp (eq-eqb x y (s .0 e .0), eq-eqb u v (s .0 e .1), eq-eqb p q (s .0 e .2)))
-        (λ t. let r = and-right (eqb x y) (eqb u v && eqb p q) t in
-        s .1 (eqb-true x y (and-left (eqb x y) (eqb u v && eqb p q) t))
-        (eqb-true u v (and-left (eqb u v) (eqb p q) r)) (eqb-true p q (and-right (eqb u v) (eqb p q) r)))
+        (λ t. let r = and-eq-true-iff (eqb x y) (eqb u v && eqb p q) .0 t .1 in
+        s .1 (eqb-true x y (and-eq-true-iff (eqb x y) (eqb u v && eqb p q) .0 t .0))
+        (eqb-true u v (and-eq-true-iff (eqb u v) (eqb p q) .0 r .0)) (eqb-true p q (and-eq-true-iff (eqb u v) (eqb p q) .0 r .1)))
 
 -- each form's word with w's fields is w, exactly if the other bits of w are the form's
 

@@ -1,6 +1,5 @@
 -- Laws of the definitions, for the proofs here.
 pub mod Answers
-pub mod ExactLines
 pub mod GoodSessions
 pub mod LineKinds
 pub mod Lists

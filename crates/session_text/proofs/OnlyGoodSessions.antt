@@ -1,6 +1,6 @@
 -- Only good sessions are read. Assumes nothing.
 use Prim.Native.Nat.{ℕ, zero, suc, _+_, _≤_, zero-le}
-use mathlib.Core.Bool.{Bool, true, false, cond, _&&_}
+use mathlib.Core.Bool.{Bool, true, false, cond, _&&_, and-eq-true-iff}
 use mathlib.Core.List.{List, [], _∷_, _++_}
 use mathlib.Core.Path.{_≡_, refl, ap, _∙_}
 use native.Mathlib.Nat.{add-zero}
@@ -14,8 +14,8 @@ use Rattle.text.proofs.Framing.{line-says}
 use Rattle.session_text.specs.Kinds.{InRange, kindOf, lineFor}
 use Rattle.session_text.specs.Laws.{OnlyGoodIsRead, linesFrom}
 use Rattle.session_text.specs.Parsing.{Parsed, good, bad, before, ended, lineOf, parseLines}
-use Rattle.session_text.proofs.ExactLines.{line-exact}
-use Rattle.session_text.proofs.Parsing.{all-read, both-true, one-read, one-wrong}
+use Rattle.text.proofs.ExactLines.{line-exact}
+use Rattle.session_text.proofs.Parsing.{all-read, one-read, one-wrong}
 
 -- the numbers v were read from a place on, the first of the line with index i, with so many allowed
 record Read (allowed i : ℕ) (s : List ℕ) (at : ℕ) (v : List ℕ) : Type 0 where
@@ -73,7 +73,7 @@ module _ (allowed i : ℕ) (s : List ℕ) (at : ℕ) (rest : (next : ℕ) → If
 
   read-turn : (b : Bool) → leb 9 i && ended s at ≡ b → IfRead (suc allowed) i s at (parseLines (suc allowed) i s at)
   read-turn true e =
-      let p = both-true (leb 9 i) (ended s at) e in
+      let p = and-eq-true-iff (leb 9 i) (ended s at) .0 e in
       rw (all-read allowed i s at e) (read-none (suc allowed) i s at (leb-true _ _ (p .0)) (leb-true _ _ (p .1)))
   read-turn false e = read-line e (lineOf (kindOf i) s at) refl
 

@@ -1,6 +1,6 @@
 -- The lines of a session, read one after another. Assumes nothing.
 use Prim.Native.Nat.{ℕ, suc, _+_, _-_, _≤_, _<_}
-use mathlib.Core.Bool.{Bool, true, false, _&&_}
+use mathlib.Core.Bool.{Bool, true, false, _&&_, and-eq-true-iff}
 use mathlib.Core.List.{List, [], _∷_, _++_, append-assoc, append-nil}
 use mathlib.Core.Path.{_≡_, refl, sym, ap, _∙_}
 use native.Mathlib.Numerals.{add-one}
@@ -50,13 +50,9 @@ module _ (i : ℕ) (s : List ℕ) (at : ℕ) where
   unfolding parseLines
   extra h = rw (lt-leb _ _ h)
 
-pub both-true : (a b : Bool) → a && b ≡ true → (a ≡ true) × (b ≡ true)
-both-true true b e = (refl, e)
-both-true false b e = let z : _≡_ {A = ℕ} 0 1 = cc in absurd (omega arith)
-
 -- a text may end behind the nine lines only
 pub nine-on : (i : ℕ) (b : Bool) → leb 9 i && b ≡ true → 9 ≤ i
-nine-on i b e = leb-true 9 i (both-true (leb 9 i) b e .0)
+nine-on i b e = leb-true 9 i (and-eq-true-iff (leb 9 i) b .0 e .0)
 
 -- with i lines read, whose numbers stand at the front of vs: the rest decides
 abbrev pub Reached : List ℕ → ℕ → ℕ → List ℕ → Type 0

@@ -1,6 +1,6 @@
 -- What each test of a line decides, and what a line that was read says of itself. Assumes nothing.
 use mathlib.Core.Path.{_≡_, refl, sym}
-use mathlib.Core.Bool.{Bool, true, false, cond, _&&_}
+use mathlib.Core.Bool.{Bool, true, false, cond, _&&_, and-eq-true-iff}
 use mathlib.Core.List.{List}
 use Prim.Native.Nat.{ℕ, _+_, _≤_, _<_}
 use native.Mathlib.Omega.{arith}
@@ -13,10 +13,6 @@ use Rattle.text.specs.declared.Hex.{Hex}
 use Rattle.text.specs.declared.Hex.the-variants.{Value, NotHex}
 use Rattle.text.specs.declared.Line.{Line}
 use Rattle.text.specs.declared.Line.the-variants.{Is, Wrong}
-
-both : (a b : Bool) → (a && b) ≡ true → (a ≡ true) × (b ≡ true)
-both true b e = (refl, e)
-both false b e = let z : _≡_ {A = ℕ} 0 1 = cc in absurd (omega arith)
 
 module _ (key : List ℕ) (n : ℕ) (s : List ℕ) (at : ℕ) where
   pub frame-short : length s < at + (length key + n + 1) → framed key n s at ≡ false
@@ -34,7 +30,7 @@ module _ (key : List ℕ) (n : ℕ) (s : List ℕ) (at : ℕ) where
   -- what stands in a frame lies within the text
   pub frame-fits : framed key n s at ≡ true → at + (length key + n + 1) ≤ length s
   unfolding framed
-  frame-fits e = leb-true _ _ (both _ _ (both _ _ e .0) .0)
+  frame-fits e = leb-true _ _ (and-eq-true-iff _ _ .0 (and-eq-true-iff _ _ .0 e .0) .0)
 
 module _ (most next v : ℕ) where
   pub capped-is : v ≤ most → capped most next (Value v) ≡ Is v next

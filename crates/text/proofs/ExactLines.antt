@@ -1,6 +1,6 @@
 -- A line that is read is the line of its number, and the text behind it. Assumes nothing.
 use Prim.Native.Nat.{ℕ, zero, suc, _+_, _-_, _*_, _/_, _%_, _≤_, _<_}
-use mathlib.Core.Bool.{Bool, true, false, cond, _&&_}
+use mathlib.Core.Bool.{Bool, true, false, cond, _&&_, and-eq-true-iff}
 use mathlib.Core.List.{List, [], _∷_, _++_, append-assoc, append-nil}
 use mathlib.Core.Path.{_≡_, refl, sym, ap, _∙_}
 use native.Mathlib.Nat.{add-zero, zero-add}
@@ -9,13 +9,12 @@ use borrow.Author.Tests.{eqb-true, le-ltb, leb-false, leb-true, lt-leb, lt-ltb, 
 use lib.Dec.{eqb, leb, ltb}
 use lib.ListN.{length, getD, take, drop, take-append-drop}
 use lib.Seq.{drop-cons, drop-drop}
 use Rattle.text.specs.Hex.{digitOf, hexDigits, readHex, valueOf}
 use Rattle.text.specs.Lines.{capped, framed, lineAt, lineText, starts}
 use Rattle.text.specs.declared.Hex.{Hex}
 use Rattle.text.specs.declared.Hex.the-variants.{Value, NotHex}
 use Rattle.text.specs.declared.Line.the-variants.{Is, Wrong}
 use Rattle.text.proofs.Framing.{frame-fits, line-framed, line-says, line-unframed}
-use Rattle.session_text.proofs.Parsing.{both-true}
 
 -- a digit is the digit of its number
 
@@ -118,8 +117,8 @@ module _ (key : List ℕ) (n most : ℕ) (s : List ℕ) (at v next : ℕ) (e : l
   pub line-exact : drop at s ≡ lineText key n v ++ drop next s
   unfolding framed lineText
   line-exact =
-      let p = both-true (leb (at + (length key + n + 1)) (length s) && starts key (drop at s)) (eqb (getD s (at + length key + n) 0) 10) is-framed in
-      let q = both-true (leb (at + (length key + n + 1)) (length s)) (starts key (drop at s)) (p .0) in
+      let p = and-eq-true-iff (leb (at + (length key + n + 1)) (length s) && starts key (drop at s)) (eqb (getD s (at + length key + n) 0) 10) .0 is-framed in
+      let q = and-eq-true-iff (leb (at + (length key + n + 1)) (length s)) (starts key (drop at s)) .0 (p .0) in
       let says = line-says key n most s at v next e in
       let room : at + (length key + n + 1) ≤ length s = frame-fits key n s at is-framed in
       let feed : getD s (at + length key + n) 0 ≡ 10 = eqb-true (getD s (at + length key + n) 0) 10 (p .1) in
