@@ -2,6 +2,7 @@
 use Prim.Native.Nat.{ℕ, _+_, _≤_}
 use mathlib.Core.List.{List, [], _∷_}
 use lib.ListN.{getD}
+use Rattle.text.specs.Ascii.{ascii}
 use Rattle.text.specs.Lines.{lineText}
 
 -- a kind of line: its key with the '=', how many hex digits its number has, and the largest number
@@ -14,45 +15,35 @@ pub record Kind : Type 0 where
 abbrev pub lineFor : Kind → ℕ → List ℕ
 lineFor kind v = lineText (kind .key) (kind .digits) v
 
--- base=
 abbrev pub baseKind : Kind
-baseKind = record { key = 98 ∷ 97 ∷ 115 ∷ 101 ∷ 61 ∷ []; digits = 16; most = 0xffff_ffff_ffff_ffff }
+baseKind = record { key = ascii "base="; digits = 16; most = 0xffff_ffff_ffff_ffff }
 
--- granules=
 abbrev pub granulesKind : Kind
-granulesKind = record { key = 103 ∷ 114 ∷ 97 ∷ 110 ∷ 117 ∷ 108 ∷ 101 ∷ 115 ∷ 61 ∷ []; digits = 4; most = 0x400 }
+granulesKind = record { key = ascii "granules="; digits = 4; most = 0x400 }
 
--- access=
 abbrev pub accessKind : Kind
-accessKind = record { key = 97 ∷ 99 ∷ 99 ∷ 101 ∷ 115 ∷ 115 ∷ 61 ∷ []; digits = 1; most = 1 }
+accessKind = record { key = ascii "access="; digits = 1; most = 1 }
 
--- exclude=
 abbrev pub excludeKind : Kind
-excludeKind = record { key = 101 ∷ 120 ∷ 99 ∷ 108 ∷ 117 ∷ 100 ∷ 101 ∷ 61 ∷ []; digits = 4; most = 0xffff }
+excludeKind = record { key = ascii "exclude="; digits = 4; most = 0xffff }
 
--- seed=
 abbrev pub seedKind : Kind
-seedKind = record { key = 115 ∷ 101 ∷ 101 ∷ 100 ∷ 61 ∷ []; digits = 4; most = 0xffff }
+seedKind = record { key = ascii "seed="; digits = 4; most = 0xffff }
 
--- x0=
 abbrev pub x0Kind : Kind
-x0Kind = record { key = 120 ∷ 48 ∷ 61 ∷ []; digits = 16; most = 0xffff_ffff_ffff_ffff }
+x0Kind = record { key = ascii "x0="; digits = 16; most = 0xffff_ffff_ffff_ffff }
 
--- x1=
 abbrev pub x1Kind : Kind
-x1Kind = record { key = 120 ∷ 49 ∷ 61 ∷ []; digits = 16; most = 0xffff_ffff_ffff_ffff }
+x1Kind = record { key = ascii "x1="; digits = 16; most = 0xffff_ffff_ffff_ffff }
 
--- x2=
 abbrev pub x2Kind : Kind
-x2Kind = record { key = 120 ∷ 50 ∷ 61 ∷ []; digits = 16; most = 0xffff_ffff_ffff_ffff }
+x2Kind = record { key = ascii "x2="; digits = 16; most = 0xffff_ffff_ffff_ffff }
 
--- sp=
 abbrev pub spKind : Kind
-spKind = record { key = 115 ∷ 112 ∷ 61 ∷ []; digits = 16; most = 0xffff_ffff_ffff_ffff }
+spKind = record { key = ascii "sp="; digits = 16; most = 0xffff_ffff_ffff_ffff }
 
--- word=
 abbrev pub wordKind : Kind
-wordKind = record { key = 119 ∷ 111 ∷ 114 ∷ 100 ∷ 61 ∷ []; digits = 8; most = 0xffff_ffff }
+wordKind = record { key = ascii "word="; digits = 8; most = 0xffff_ffff }
 
 -- the nine lines at the front, in their order
 unfoldable pub frontKinds : List Kind

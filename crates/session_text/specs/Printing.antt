@@ -1,7 +1,8 @@
 -- What the session program prints (document 01, "The session program").
 use Prim.Native.Nat.{ℕ}
-use mathlib.Core.List.{List, [], _∷_, _++_}
+use mathlib.Core.List.{List, _++_}
 use lib.ListN.{getD}
+use Rattle.text.specs.Ascii.{ascii}
 use Rattle.text.specs.Lines.{lineText, digitsLine}
 use Rattle.machine.specs.declared.Code.{Code}
 use Rattle.machine.specs.declared.Registers.{Registers}
@@ -10,13 +11,13 @@ use Rattle.session_text.specs.Kinds.{lineFor, spKind, x0Kind, x1Kind, x2
 
 -- bad=, the number of the first wrong, missing, unended or extra line
 unfoldable pub badText : ℕ → List ℕ
-badText number = lineText (98 ∷ 97 ∷ 100 ∷ 61 ∷ []) 4 number
+badText number = lineText (ascii "bad=") 4 number
 
 -- done=, how many words were done, and code=
 unfoldable pub answerLines : ℕ → Code → List ℕ
 answerLines count code =
-    lineText (100 ∷ 111 ∷ 110 ∷ 101 ∷ 61 ∷ []) 4 count
-    ++ lineText (99 ∷ 111 ∷ 100 ∷ 101 ∷ 61 ∷ []) 1 (codeNumber code)
+    lineText (ascii "done=") 4 count
+    ++ lineText (ascii "code=") 1 (codeNumber code)
 
 -- x0=, x1=, x2= and sp=, as they are read
 unfoldable pub registerLines : List ℕ → List ℕ
@@ -29,5 +30,5 @@ unfoldable pub reportText : ℕ → Code → Registers → List ℕ → List ℕ
 reportText count code registers tags =
     answerLines count code
     ++ (registerLines (registers .x)
-    ++ (lineText (110 ∷ 122 ∷ 99 ∷ 118 ∷ 61 ∷ []) 1 (registers .status .nzcv)
-    ++ digitsLine (116 ∷ 97 ∷ 103 ∷ 115 ∷ 61 ∷ []) tags))
+    ++ (lineText (ascii "nzcv=") 1 (registers .status .nzcv)
+    ++ digitsLine (ascii "tags=") tags))
