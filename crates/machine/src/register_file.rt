@@ -1,4 +1,4 @@
-// Registers by number. Public because `instructions` reads them and names destinations.
+// Registers by number. The module is public because `instructions` calls it.
 ghost use mathlib.Core.Path.{_≡_};
 ghost use Rattle.machine.specs.Registers.{orNone, written, xOrSp, xOrZero};
 
