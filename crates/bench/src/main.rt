@@ -107,50 +107,27 @@ fn all_rounds(
     Progress { machine, done }
 }
 
-// The checksum sum with a number added to it: sum * 31 + v.
-fn added(sum: u64, v: u64) -> u64 {
-    std::num::wrapping_add_u64(std::num::wrapping_sub_u64(sum << 5, sum), v)
-}
-
-fn wide(b: u8) -> u64 {
-    b as u64
-}
-
-fn bytes_added(sum: u64, bytes: &[u8]) -> u64 {
-    let mut s = sum;
-    let mut i = 0;
-    while i < bytes.len() {
-        s = added(s, wide(bytes[i]));
-        i += 1;
-    }
-    s
-}
-
-fn words_added(sum: u64, words: &[u64]) -> u64 {
-    let mut s = sum;
-    let mut i = 0;
-    while i < words.len() {
-        s = added(s, words[i]);
-        i += 1;
-    }
-    s
-}
-
 fn machine_sum(machine: Machine) -> u64 {
     let x = machine.registers.x;
     let status = machine.registers.status;
     let cursor = machine.cursor;
-    let a = words_added(0, &x);
-    let b = added(added(a, status.nzcv as u64), status.rgsr as u64);
-    let c = added(b, status.seed as u64);
-    added(added(c, cursor.next as u64), cursor.held as u64)
+    let a = checksum::with_words(0, &x);
+    let b = checksum::with_number(
+        checksum::with_number(a, status.nzcv as u64),
+        status.rgsr as u64,
+    );
+    let c = checksum::with_number(b, status.seed as u64);
+    checksum::with_number(
+        checksum::with_number(c, cursor.next as u64),
+        cursor.held as u64,
+    )
 }
 
-fn checksum(machine: Machine, data: &[u8], tags: &[u8], history: &[u64]) -> u64 {
+fn state_checksum(machine: Machine, data: &[u8], tags: &[u8], history: &[u64]) -> u64 {
     let a = machine_sum(machine);
-    let b = bytes_added(a, tags);
-    let c = bytes_added(b, data);
-    words_added(c, history)
+    let b = checksum::with_bytes(a, tags);
+    let c = checksum::with_bytes(b, data);
+    checksum::with_words(c, history)
 }
 
 // How many words a workload of so many bytes has; where they are no workload, more than there may be.
@@ -201,7 +178,7 @@ fn measure(
     let h = 8 * slots;
     let end = all_rounds(rounds, words, backs, data, tags, &mut history[..h]);
     let machine = end.machine;
-    write_end(end.done, checksum(machine, data, tags, &history[..h]));
+    write_end(end.done, state_checksum(machine, data, tags, &history[..h]));
 }
 
 fn bench(input: &mut [u8], words: &mut [u32], data: &mut [u8], tags: &mut [u8], history: &mut [u64])

@@ -2,25 +2,6 @@
 use super::kinds;
 use super::lines::Line;
 
-fn wide(b: u8) -> u64 {
-    b as u64
-}
-
-// The checksum with a byte added to it: sum * 31 + b.
-fn added(sum: u64, b: u64) -> u64 {
-    std::num::wrapping_add_u64(std::num::wrapping_sub_u64(sum << 5, sum), b)
-}
-
-fn checksum(part: &[u8]) -> u64 {
-    let mut sum = 0;
-    let mut i = 0;
-    while i < part.len() {
-        sum = added(sum, wide(part[i]));
-        i += 1;
-    }
-    sum
-}
-
 // Where the part that a pointer reaches starts; 0 for an empty one.
 fn start_of(pointer: u64, base: u64, length: usize) -> u64 {
     if length == 0 {
@@ -34,6 +15,12 @@ pub(crate) fn line_of(pointer: u64, base: u64, data: &[u8], tags: &[u8]) -> Line
     let start = start_of(pointer, base, part.len());
     Line::of(
         kinds::REACHED,
-        [start, part.len() as u64, checksum(part), 0, 0],
+        [
+            start,
+            part.len() as u64,
+            checksum::with_bytes(0, part),
+            0,
+            0,
+        ],
     )
 }

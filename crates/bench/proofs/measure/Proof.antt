@@ -18,14 +18,14 @@ slice-aggregate-all-rounds c = sym (length-take-le _ _ (omega arith))
 all-rounds-requires : tie.Need-all-rounds-requires
 all-rounds-requires c κs = search needs
 
-slice-reshare-prefix-checksum : tie.Need-slice-reshare-prefix-checksum
-slice-reshare-prefix-checksum c = search needs
+slice-reshare-prefix-state-checksum : tie.Need-slice-reshare-prefix-state-checksum
+slice-reshare-prefix-state-checksum c = search needs
 
-slice-aggregate-checksum : tie.Need-slice-aggregate-checksum
-slice-aggregate-checksum c = sym (length-take-le _ _ (omega arith))
+slice-aggregate-state-checksum : tie.Need-slice-aggregate-state-checksum
+slice-aggregate-state-checksum c = sym (length-take-le _ _ (omega arith))
 
-checksum-requires : tie.Need-checksum-requires
-checksum-requires c κs = search needs
+state-checksum-requires : tie.Need-state-checksum-requires
+state-checksum-requires c κs = search needs
 
 write-end-requires : tie.Need-write-end-requires
 write-end-requires c κs = search needs
@@ -50,9 +50,9 @@ measure-spec =
     slice-relend-prefix-all-rounds
     slice-aggregate-all-rounds
     all-rounds-requires
-    slice-reshare-prefix-checksum
-    slice-aggregate-checksum
-    checksum-requires
+    slice-reshare-prefix-state-checksum
+    slice-aggregate-state-checksum
+    state-checksum-requires
     write-end-requires
     same-length
     same-length-2
