@@ -1,8 +1,8 @@
 -- Every good session is read. Assumes nothing.
 use Prim.Native.Nat.{ℕ, zero, suc, _+_, _≤_, _<_}
-use mathlib.Core.Bool.{Bool, true, false, _&&_}
+use mathlib.Core.Bool.{false, _&&_, and-false}
 use mathlib.Core.List.{List, [], _∷_, _++_, append-assoc}
-use mathlib.Core.Path.{_≡_, refl, ap, _∙_}
+use mathlib.Core.Path.{_≡_, ap, _∙_}
 use native.Mathlib.Nat.{add-zero}
 use native.Mathlib.Omega.{arith}
 use borrow.Author.Tests.{le-leb, lt-leb}
@@ -16,10 +16,6 @@ use Rattle.session_text.specs.Parsing.{good, before, ended, parseLines}
 use Rattle.session_text.proofs.LineKinds.{wide}
 use Rattle.session_text.proofs.Parsing.{all-read, at-end, one-read}
 
-not-ended : (b : Bool) → b && false ≡ false
-not-ended true = refl
-not-ended false = refl
-
 module _ (i x : ℕ) (v done : List ℕ) where
   text : List ℕ
   text = done ++ (lineFor (kindOf i) x ++ linesFrom (i + 1) v)
@@ -28,7 +24,7 @@ module _ (i x : ℕ) (v done : List ℕ) where
   unfolding text
   text-on =
       let long : length done < length text = simp (length-append, length-line) (omega arith) in
-      rw (lt-leb (length text) (length done) long) (not-ended (leb 9 i))
+      rw (lt-leb (length text) (length done) long) (and-false (leb 9 i))
 
   -- a line that was written is read, and the others behind it
   line-read : (allowed : ℕ) → x ≤ kindOf i .most
