@@ -1,4 +1,4 @@
-/* A small front end: answers the questions on standard input, one to a line (docs/MANUAL.md, "The C front end"). */
+/* A small front end: answers the questions on standard input, one to a line (docs/MANUAL.md, "The small front end"). */
 #include "mte.h"
 
 #include <ctype.h>

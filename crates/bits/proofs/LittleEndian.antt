@@ -5,7 +5,7 @@ use mathlib.Core.List.{List, [], _∷_}
 use native.Mathlib.Nat.{pow-suc}
 use native.Mathlib.Omega.{arith}
 use lib.ListN.{length, getD}
-use Rattle.bits.specs.LittleEndian.{lowBytes, fromBytes, bytesOf, wordOf}
+use Rattle.bits.specs.LittleEndian.{lowBytes, fromBytes, bytesOf, wordFrom}
 
 pub low-bytes-length : (n v : ℕ) → length (lowBytes n v) ≡ n
 unfolding lowBytes
@@ -49,7 +49,7 @@ bytes-apart v =
 pub word-apart : (l : List ℕ) → 8 ≤ length l
     → getD l 0 0 + 256 * (getD l 1 0 + 256 * (getD l 2 0 + 256 * (getD l 3 0
     + 256 * (getD l 4 0 + 256 * (getD l 5 0 + 256 * (getD l 6 0 + 256 * getD l 7 0))))))
-    ≡ wordOf l
+    ≡ wordFrom l
 unfolding fromBytes
 word-apart (a ∷ b ∷ c ∷ d ∷ e ∷ f ∷ g ∷ h ∷ l) k = omega arith
 word-apart [] k = absurd (omega arith)

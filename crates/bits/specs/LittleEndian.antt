@@ -18,5 +18,5 @@ abbrev pub bytesOf : ℕ → List ℕ
 bytesOf v = lowBytes 8 v
 
 -- the word that the first eight bytes of a list make
-abbrev pub wordOf : List ℕ → ℕ
-wordOf l = fromBytes (take 8 l)
+abbrev pub wordFrom : List ℕ → ℕ
+wordFrom l = fromBytes (take 8 l)

@@ -5,7 +5,7 @@ ghost use Prim.Native.Nat.{_+_, _^_, _<_, _≤_};
 ghost use lib.ListN.{length};
 ghost use lib.Seq.{sets};
 ghost use Rattle.bits.specs.Fields.{bitsAt, withBits};
-ghost use Rattle.bits.specs.LittleEndian.{bytesOf, wordOf};
+ghost use Rattle.bits.specs.LittleEndian.{bytesOf, wordFrom};
 
 // Bits low + width - 1 down to low of w.
 pub fn field(w: u64, low: u64, width: u64) -> u64
@@ -50,7 +50,7 @@ fn widen(x: u8) -> u64
 // The word of the first eight bytes, little-endian.
 pub fn load_word(part: &[u8]) -> u64
     requires { ⌜ 8 ≤ length (now part) ⌝ }
-    ensures { λ r. ⌜ r ≡ wordOf (now (part .entry)) ⌝ }
+    ensures { λ r. ⌜ r ≡ wordFrom (now (part .entry)) ⌝ }
 {
     let a = widen(part[0]);
     let b = widen(part[1]);

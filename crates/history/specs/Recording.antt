@@ -5,7 +5,7 @@ use mathlib.Core.List.{List, []}
 use lib.Dec.{eqb, ltb}
 use lib.ListN.{drop, getD}
 use lib.Seq.{sets}
-use Rattle.bits.specs.LittleEndian.{wordOf}
+use Rattle.bits.specs.LittleEndian.{wordFrom}
 use Rattle.isa.specs.declared.TwoSourceOp.{TwoSourceOp}
 use Rattle.isa.specs.declared.TwoSourceOp.the-variants.{Subp, Subps, Irg, Gmi}
 use Rattle.isa.specs.declared.TagStoreOp.{TagStoreOp}
@@ -70,7 +70,7 @@ writesData (Stgp mode t t2 n amount) = true
 
 -- a word of old data, zero where it is not in use
 abbrev pub oldWord : Bool → List ℕ → ℕ → ℕ
-oldWord used bytes at = cond used (wordOf (drop at bytes)) 0
+oldWord used bytes at = cond used (wordFrom (drop at bytes)) 0
 
 -- the register r, n granules from i on, with their data or not, as they stand
 unfoldable pub entryFor : ℕ → ℕ → ℕ → Bool → State → Entry

@@ -29,7 +29,7 @@ fn is_sp_misaligned(n: u64, from: u64) -> bool
     false
 }
 
-// The first granule that an access names, or the refusal of the lowest code.
+// The first granule that an access names, or the refusal of the lowest code. ALIGN is for stores: LDG has rounded its address.
 pub(crate) fn place(
     settings: Settings,
     granules: usize,

@@ -15,7 +15,7 @@ use machine::Settings;
 use machine::Status;
 use machine::register_file;
 
-fn address_of(x: &[u64; 32], n: u64, amount: u64) -> u64
+fn ldg_address(x: &[u64; 32], n: u64, amount: u64) -> u64
     ensures { λ r. ⌜ r ≡ ldgAddress (now (x .entry)) n amount ⌝ }
 {
     let address = std::num::wrapping_add_u64(register_file::x_or_sp(x, n), amount);
@@ -67,7 +67,7 @@ pub(crate) fn judge_ldg(
         tags.len(),
         n,
         from,
-        address_of(x, n, amount),
+        ldg_address(x, n, amount),
         false,
     ) {
         Placed::First(i) => Judged::Accepted(effect(x, settings, status, tags, t, i)),

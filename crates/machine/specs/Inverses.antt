@@ -4,7 +4,7 @@ use mathlib.Core.Bool.{cond, not}
 use mathlib.Core.List.{List}
 use lib.Dec.{eqb}
 use lib.ListN.{drop, getD}
-use Rattle.bits.specs.LittleEndian.{wordOf}
+use Rattle.bits.specs.LittleEndian.{wordFrom}
 use Rattle.machine.specs.declared.Status.{Status}
 use Rattle.machine.specs.declared.Change.{Change}
 use Rattle.machine.specs.declared.Change.the-variants.{Keep, Zero, Pair, Words}
@@ -15,8 +15,8 @@ use Rattle.machine.specs.Registers.{xOrSp}
 -- the data of n granules at the start of a list, as a change that stores it again
 abbrev pub savedWords : ℕ → List ℕ → Change
 savedWords n part =
-    cond (eqb n 2) (Words (wordOf part) (wordOf (drop 8 part)) (wordOf (drop 16 part)) (wordOf (drop 24 part)))
-    (cond (eqb n 1) (Words (wordOf part) (wordOf (drop 8 part)) 0 0) Keep)
+    cond (eqb n 2) (Words (wordFrom part) (wordFrom (drop 8 part)) (wordFrom (drop 16 part)) (wordFrom (drop 24 part)))
+    (cond (eqb n 1) (Words (wordFrom part) (wordFrom (drop 8 part)) 0 0) Keep)
 
 -- the old data, if a change of n granules writes data
 abbrev pub oldData : Change → ℕ → List ℕ → Change

@@ -4,7 +4,7 @@ ghost use mathlib.Core.Path.{_≡_};
 ghost use Prim.Native.Nat.{_+_, _*_, _<_, _≤_};
 ghost use lib.ListN.{drop, getD, length};
 ghost use lib.Seq.{sets};
-ghost use Rattle.bits.specs.LittleEndian.{wordOf};
+ghost use Rattle.bits.specs.LittleEndian.{wordFrom};
 ghost use Rattle.machine.specs.Effects.{newBytes, newTags, room};
 ghost use Rattle.machine.specs.Inverses.{oldData, savedWords};
 use super::Change;
@@ -44,7 +44,7 @@ pub(crate) fn change_tags(
 
 fn word_at(part: &[u8], at: usize) -> u64
     requires { ⌜ at + 8 ≤ length (now part) ⌝ }
-    ensures { λ r. ⌜ r ≡ wordOf (drop at (now (part .entry))) ⌝ }
+    ensures { λ r. ⌜ r ≡ wordFrom (drop at (now (part .entry))) ⌝ }
 {
     bits::load_word(&part[at..])
 }

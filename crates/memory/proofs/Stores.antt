@@ -7,7 +7,7 @@ use native.Mathlib.Numerals.{add-one}
 use native.Mathlib.Omega.{arith}
 use lib.ListN.{length, take, drop, getD, length-append, length-drop}
 use lib.Seq.{sets, length-take-le, drop-cons, drop-drop, take-add, getD-drop}
-use Rattle.bits.specs.LittleEndian.{bytesOf, wordOf}
+use Rattle.bits.specs.LittleEndian.{bytesOf, wordFrom}
 use Rattle.bits.proofs.LittleEndian.{low-bytes-length, low-bytes-from}
 use Rattle.memory.specs.Addresses.{named}
 use Rattle.memory.specs.Stores.{pairBytes, savedBytes, tagBytes}
@@ -25,18 +25,18 @@ take-bytes (suc n) (b ∷ l) small zero = small 0
 take-bytes (suc n) (b ∷ l) small (suc i) = take-bytes n l (λ k. small (suc k)) i
 
 module _ (l : List ℕ) (small : (i : ℕ) → getD l i 0 < 256) where
-  saved-word : (at : ℕ) → at + 8 ≤ length l → bytesOf (wordOf (drop at l)) ≡ take 8 (drop at l)
+  saved-word : (at : ℕ) → at + 8 ≤ length l → bytesOf (wordFrom (drop at l)) ≡ take 8 (drop at l)
   saved-word at h =
       let part = take 8 (drop at l) in
       let e : length part ≡ 8 = length-take-le 8 (drop at l) (rw length-drop (omega arith)) in
       rw e at (low-bytes-from part (take-bytes 8 (drop at l) (λ i. rw getD-drop (small (at + i)))))
 
-  saved-pair : (at : ℕ) → at + 16 ≤ length l → pairBytes (wordOf (drop at l)) (wordOf (drop (at + 8) l)) ≡ take 16 (drop at l)
+  saved-pair : (at : ℕ) → at + 16 ≤ length l → pairBytes (wordFrom (drop at l)) (wordFrom (drop (at + 8) l)) ≡ take 16 (drop at l)
   saved-pair at h =
       rw (saved-word at (omega arith), saved-word (at + 8) (omega arith), ← drop-drop 8 at l) (sym (take-add 8 8 (drop at l)))
 
   saved : (pair : Bool) (at : ℕ) → at + 16 * named pair ≤ length l
-      → savedBytes pair (wordOf (drop at l)) (wordOf (drop (at + 8) l)) (wordOf (drop (at + 16) l)) (wordOf (drop (at + 24) l))
+      → savedBytes pair (wordFrom (drop at l)) (wordFrom (drop (at + 8) l)) (wordFrom (drop (at + 16) l)) (wordFrom (drop (at + 24) l))
       ≡ take (16 * named pair) (drop at l)
   saved true at h =
       let e : at + 24 ≡ at + 16 + 8 = omega arith in
@@ -47,7 +47,7 @@ module _ (l : List ℕ) (small : (i : ℕ) → getD l i 0 < 256) where
 pub data-back : (pair : Bool) (at : ℕ) (l vs : List ℕ) → ((i : ℕ) → getD l i 0 < 256)
     → at + 16 * named pair ≤ length l → length vs ≤ 16 * named pair
     → sets (sets l at vs) at
-    (savedBytes pair (wordOf (drop at l)) (wordOf (drop (at + 8) l)) (wordOf (drop (at + 16) l)) (wordOf (drop (at + 24) l))) ≡ l
+    (savedBytes pair (wordFrom (drop at l)) (wordFrom (drop (at + 8) l)) (wordFrom (drop (at + 16) l)) (wordFrom (drop (at + 24) l))) ≡ l
 data-back pair at l vs small h k = rw (saved l small pair at h) (sets-back at (16 * named pair) l vs k)
 
 -- the tags

@@ -7,7 +7,7 @@ use native.Mathlib.Nat.{lt-of-not-le, le-antisymm}
 use native.Mathlib.Omega.{arith}
 use lib.ListN.{length, take, drop, length-take, length-drop}
 use Rattle.tag.specs.PointerTags.{tagOf}
-use Rattle.reach.specs.ReachablePart.{inRow, placeOf, partFrom, pointsInside, reachableOf}
+use Rattle.reach.specs.ReachablePart.{inRow, offsetOf, partFrom, pointsInside, reachableOf}
 use Rattle.reach.specs.Longest.{Carried, Longest, Ends, Reaches, TheReachablePart}
 use Rattle.reach.proofs.Rows.{end-le, carries-from, stops-from}
 use Rattle.reach.proofs.Parts.{within, empty-part, whole-part}
@@ -56,25 +56,25 @@ same-longest at tag bytes tags part other l m =
 
 module _ (pointer base : ℕ) (bytes tags : List ℕ) where
   reached-longest : pointsInside pointer base bytes tags ≡ true
-      → Longest (placeOf base pointer) (tagOf pointer) bytes tags (reachableOf pointer base bytes tags)
+      → Longest (offsetOf base pointer) (tagOf pointer) bytes tags (reachableOf pointer base bytes tags)
   reached-longest h =
       let w = within pointer base bytes tags h in
       rw (whole-part pointer base bytes tags h)
-      (part-longest (placeOf base pointer) (tagOf pointer) bytes tags (w .sizes .sixteen) (omega arith))
+      (part-longest (offsetOf base pointer) (tagOf pointer) bytes tags (w .sizes .sixteen) (omega arith))
 
   reached-ends : pointsInside pointer base bytes tags ≡ true
-      → Ends (placeOf base pointer) (tagOf pointer) bytes tags (reachableOf pointer base bytes tags)
+      → Ends (offsetOf base pointer) (tagOf pointer) bytes tags (reachableOf pointer base bytes tags)
   reached-ends h =
       let w = within pointer base bytes tags h in
       rw (whole-part pointer base bytes tags h)
-      (part-ends (placeOf base pointer) (tagOf pointer) bytes tags (w .sizes .sixteen) (omega arith))
+      (part-ends (offsetOf base pointer) (tagOf pointer) bytes tags (w .sizes .sixteen) (omega arith))
 
   only-reached : (part : List ℕ) → Reaches pointer base bytes tags part → part ≡ reachableOf pointer base bytes tags
   only-reached part r = go (pointsInside pointer base bytes tags) refl
     where
       go : (t : Bool) → pointsInside pointer base bytes tags ≡ t → part ≡ reachableOf pointer base bytes tags
       go true h =
-          same-longest (placeOf base pointer) (tagOf pointer) bytes tags part (reachableOf pointer base bytes tags)
+          same-longest (offsetOf base pointer) (tagOf pointer) bytes tags part (reachableOf pointer base bytes tags)
           (r .sound h) (reached-longest h)
       go false h = r .broken h ∙ sym (empty-part pointer base bytes tags h)
 

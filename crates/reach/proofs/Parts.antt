@@ -11,7 +11,7 @@ use Rattle.memory.specs.Sizes.{sizesOk}
 use Rattle.memory.proofs.Addresses.{inside-range, one-inside, located, all-first}
 use Rattle.memory.proofs.Sizes.{Sized, sized}
 use Rattle.tag.specs.PointerTags.{tagOf}
-use Rattle.reach.specs.ReachablePart.{inRow, placeOf, partFrom, pointsInside, reachableOf}
+use Rattle.reach.specs.ReachablePart.{inRow, offsetOf, partFrom, pointsInside, reachableOf}
 use Rattle.reach.proofs.Rows.{end-le}
 
 module _ (pointer base : ℕ) (bytes tags : List ℕ) where
@@ -33,7 +33,7 @@ module _ (pointer base : ℕ) (bytes tags : List ℕ) where
   empty-part h = rw h
 
   pub whole-part : pointsInside pointer base bytes tags ≡ true
-      → reachableOf pointer base bytes tags ≡ partFrom (placeOf base pointer) (tagOf pointer) bytes tags
+      → reachableOf pointer base bytes tags ≡ partFrom (offsetOf base pointer) (tagOf pointer) bytes tags
   unfolding reachableOf
   whole-part h = rw h
 
@@ -74,7 +74,7 @@ module _ (pointer base : ℕ) (bytes tags : List ℕ) where
         ≡ reachableOf pointer base bytes tags
     unfolding partFrom
     counted-part =
-        let at = placeOf base pointer in
+        let at = offsetOf base pointer in
         let start : 16 * first + pointer % 16 ≡ at = omega arith in
         let size : 16 * end - at ≡ 16 * inRow (tagOf pointer) (drop (at / 16) tags) - at % 16 = omega (arith, rw (f .index) at e) in
         rw (start, size) (sym (whole-part (f .points)))

@@ -6,7 +6,7 @@ use mathlib.Core.List.{List, []}
 use mathlib.Core.Path.{_≡_}
 use lib.ListN.{length, take, drop, getD}
 use Rattle.tag.specs.PointerTags.{tagOf}
-use Rattle.reach.specs.ReachablePart.{placeOf, pointsInside, reachableOf}
+use Rattle.reach.specs.ReachablePart.{offsetOf, pointsInside, reachableOf}
 
 -- the granule of a byte of the data carries the tag
 abbrev pub Carries : ℕ → List ℕ → ℕ → Type 0
@@ -30,7 +30,7 @@ pub record Ends (at tag : ℕ) (bytes tags part : List ℕ) : Type 0 where
 
 -- what a pointer reaches: the longest part, and an empty one outside or with a broken size or base
 pub record Reaches (pointer base : ℕ) (bytes tags part : List ℕ) : Type 0 where
-  pub sound : pointsInside pointer base bytes tags ≡ true → Longest (placeOf base pointer) (tagOf pointer) bytes tags part
+  pub sound : pointsInside pointer base bytes tags ≡ true → Longest (offsetOf base pointer) (tagOf pointer) bytes tags part
   pub broken : pointsInside pointer base bytes tags ≡ false → part ≡ []
 
 -- the definition gives such a part, and there is no other
@@ -39,4 +39,4 @@ pub record TheReachablePart : Type 0 where
   pub only : (pointer base : ℕ) (bytes tags part : List ℕ) → Reaches pointer base bytes tags part
       → part ≡ reachableOf pointer base bytes tags
   pub ends : (pointer base : ℕ) (bytes tags : List ℕ) → pointsInside pointer base bytes tags ≡ true
-      → Ends (placeOf base pointer) (tagOf pointer) bytes tags (reachableOf pointer base bytes tags)
+      → Ends (offsetOf base pointer) (tagOf pointer) bytes tags (reachableOf pointer base bytes tags)

@@ -14,8 +14,8 @@ inRow tag [] = 0
 inRow tag (byte ∷ tags) = cond (eqb (byte % 16) tag) (suc (inRow tag tags)) 0
 
 -- where in the data the pointer's own byte is: it may lie inside a granule
-abbrev pub placeOf : ℕ → ℕ → ℕ
-placeOf base pointer = location pointer - base
+abbrev pub offsetOf : ℕ → ℕ → ℕ
+offsetOf base pointer = location pointer - base
 
 -- the data from a place on, to the end of the granules in a row that carry the tag
 unfoldable pub partFrom : ℕ → ℕ → List ℕ → List ℕ → List ℕ
@@ -29,4 +29,4 @@ pointsInside pointer base bytes tags = sizesOk base (length bytes) (length tags)
 -- play no part
 unfoldable pub reachableOf : ℕ → ℕ → List ℕ → List ℕ → List ℕ
 reachableOf pointer base bytes tags =
-    cond (pointsInside pointer base bytes tags) (partFrom (placeOf base pointer) (tagOf pointer) bytes tags) []
+    cond (pointsInside pointer base bytes tags) (partFrom (offsetOf base pointer) (tagOf pointer) bytes tags) []

@@ -31,8 +31,8 @@ pub record Fits (front : List ℕ) : Type 0 where
   pub seed : getD front 4 0 < 2 ^ 16
 
 -- the two facts that lending `&out[..n]` asks, so that a caller needs no proof file
-abbrev pub Within : ℕ → List ℕ → Type 0
-Within n xs = (n ≤ length xs) × (n ≡ length (take n xs))
+abbrev pub Lendable : ℕ → List ℕ → Type 0
+Lendable n xs = (n ≤ length xs) × (n ≡ length (take n xs))
 
 -- a text of r bytes, of which there are at most 1,134, was put at the start of out
 pub record Printed (r : ℕ) (out after text : List ℕ) : Type 0 where

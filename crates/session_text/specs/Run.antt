@@ -36,12 +36,12 @@ startOf v =
     }
 
 -- the numbers of the word lines
-abbrev pub wordsOf : List ℕ → List ℕ
-wordsOf v = drop 9 v
+abbrev pub wordNumbers : List ℕ → List ℕ
+wordNumbers v = drop 9 v
 
 -- all else is as in a fresh machine
-unfoldable pub machineOf : Start → Machine
-machineOf start =
+unfoldable pub machineFor : Start → Machine
+machineFor start =
     let fresh : Machine = freshOn (start .base) in
     record {
       settings = record { base = fresh .settings .base; exclude = start .exclude; access = eqb (start .access) 1 };
@@ -60,7 +60,7 @@ machineOf start =
 
 -- the first G granules of a memory are used; no history
 abbrev pub simulationOn : Start → List ℕ → List ℕ → Simulation
-simulationOn start bytes tags = simulation (machineOf start) (take (16 * start .granules) bytes) (take (start .granules) tags) []
+simulationOn start bytes tags = simulation (machineFor start) (take (16 * start .granules) bytes) (take (start .granules) tags) []
 
 -- its 1,024 tag bytes and 16,384 data bytes start at zero
 unfoldable pub simulationOf : Start → Simulation
@@ -68,4 +68,4 @@ simulationOf start = simulationOn start (replicate 16384 0) (replicate 1024 0)
 
 -- the words are run, all in one run
 unfoldable pub ranOf : List ℕ → Left Simulation
-ranOf v = runOf (simulationOf (startOf v)) (wordsOf v)
+ranOf v = runOf (simulationOf (startOf v)) (wordNumbers v)

@@ -2,7 +2,7 @@
 ghost use mathlib.Core.Path.{_≡_};
 ghost use lib.ListN.{length};
 ghost use lib.Seq.{sets};
-ghost use Rattle.session_text.specs.Inside.{Within};
+ghost use Rattle.session_text.specs.Inside.{Lendable};
 ghost use Rattle.session_text.specs.Session.{answerText};
 
 mod parser;
@@ -17,7 +17,7 @@ pub(crate) enum Lines {
 
 // Puts what is printed for an input at the start of out, and answers its length.
 pub fn answer(input: &[u8], out: &mut [u8; 1134]) -> usize
-    ensures { λ r. ⌜ Within r (now (out .exit)) ⌝ }
+    ensures { λ r. ⌜ Lendable r (now (out .exit)) ⌝ }
     ensures { λ r. ⌜ r ≡ length (answerText (now (input .entry))) ⌝ }
     ensures { λ _. ⌜ now (out .exit) ≡ sets (now (out .entry)) 0 (answerText (now (input .entry))) ⌝ }
 {

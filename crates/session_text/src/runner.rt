@@ -4,7 +4,7 @@ ghost use Prim.Native.Nat.{_≤_};
 ghost use lib.ListN.{length};
 ghost use Rattle.simulator.specs.Steps.{runOf};
 ghost use Rattle.session_text.specs.Inside.{Fits, Printed};
-ghost use Rattle.session_text.specs.Run.{machineOf, simulationOf, simulationOn, startOf};
+ghost use Rattle.session_text.specs.Run.{machineFor, simulationOf, simulationOn, startOf};
 ghost use Rattle.session_text.specs.Session.{ranText};
 use super::printer;
 use machine::Machine;
@@ -12,7 +12,7 @@ use machine::Machine;
 // The machine that the nine lines describe.
 fn machine_of(front: &[u64]) -> Machine
     requires { ⌜ Fits (now front) ⌝ }
-    ensures { λ r. ⌜ r ≡ machineOf (startOf (now (front .entry))) ⌝ }
+    ensures { λ r. ⌜ r ≡ machineFor (startOf (now (front .entry))) ⌝ }
 {
     let mut machine = machine::fresh(front[0]);
     let access = front[2] == 1;

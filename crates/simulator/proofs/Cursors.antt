@@ -13,14 +13,14 @@ use Rattle.machine.specs.declared.Cursor.{Cursor}
 use Rattle.machine.specs.Setup.{cursorOk}
 use Rattle.history.specs.History.{History, capacity}
 use Rattle.history.specs.Ring.{advanced, previous, retreated, pushed}
-use Rattle.simulator.specs.Taking.{Placed}
+use Rattle.simulator.specs.Taking.{CursorPlaced}
 
-pub placed : (c : ℕ) (cursor : Cursor) → cursorOk c cursor ≡ true → Placed c cursor
+pub placed : (c : ℕ) (cursor : Cursor) → cursorOk c cursor ≡ true → CursorPlaced c cursor
 unfolding cursorOk
 placed c cursor h = go (eqb c 0) refl h
   where
     go : (t : Bool) → eqb c 0 ≡ t
-        → cond t (eqb (cursor .next) 0 && eqb (cursor .held) 0) (ltb (cursor .next) c && leb (cursor .held) c) ≡ true → Placed c cursor
+        → cond t (eqb (cursor .next) 0 && eqb (cursor .held) 0) (ltb (cursor .next) c && leb (cursor .held) c) ≡ true → CursorPlaced c cursor
     go true z k =
         let (n, m) = and-eq-true-iff (eqb (cursor .next) 0) (eqb (cursor .held) 0) .0 k in
         omega (arith, eqb-true c 0 z, eqb-true (cursor .next) 0 n, eqb-true (cursor .held) 0 m)
@@ -28,7 +28,7 @@ placed c cursor h = go (eqb c 0) refl h
         let (n, m) = and-eq-true-iff (ltb (cursor .next) c) (leb (cursor .held) c) .0 k in
         omega (arith, ltb-true (cursor .next) c n, leb-true (cursor .held) c m)
 
-pub placed-ok : (c : ℕ) (cursor : Cursor) → Placed c cursor → cursorOk c cursor ≡ true
+pub placed-ok : (c : ℕ) (cursor : Cursor) → CursorPlaced c cursor → cursorOk c cursor ≡ true
 unfolding cursorOk
 placed-ok c cursor p = go (eqb c 0) refl
   where
@@ -53,11 +53,11 @@ pushed-either P r h none some = go (eqb (capacity h) 0) refl
     go true e = none (eqb-true (capacity h) 0 e)
     go false e = some (omega (arith, eqb-false (capacity h) 0 e))
 
-pub advanced-placed : (c : ℕ) (cursor : Cursor) → 0 < c → Placed c (advanced c cursor)
+pub advanced-placed : (c : ℕ) (cursor : Cursor) → 0 < c → CursorPlaced c (advanced c cursor)
 unfolding advanced
 advanced-placed c cursor some = omega (arith, mod-lt (cursor .next + 1) some)
 
-pub retreated-placed : (c : ℕ) (cursor : Cursor) → 0 < c → Placed c cursor → Placed c (retreated c cursor)
+pub retreated-placed : (c : ℕ) (cursor : Cursor) → 0 < c → CursorPlaced c cursor → CursorPlaced c (retreated c cursor)
 unfolding retreated previous
 retreated-placed c cursor some p = omega (arith, mod-lt (cursor .next + (c - 1)) some)
 
@@ -65,5 +65,5 @@ pub pushed-words : (r : List ℕ) (h : History) → length (pushed r h .words) �
 pushed-words r h =
     pushed-either (λ g. length (g .words) ≡ length (h .words)) r h (λ none. refl) (λ some. length-sets (h .words) (8 * h .cursor .next) r)
 
-pub pushed-placed : (r : List ℕ) (h : History) → Placed (capacity h) (h .cursor) → Placed (capacity h) (pushed r h .cursor)
-pushed-placed r h p = pushed-either (λ g. Placed (capacity h) (g .cursor)) r h (λ none. p) (advanced-placed (capacity h) (h .cursor))
+pub pushed-placed : (r : List ℕ) (h : History) → CursorPlaced (capacity h) (h .cursor) → CursorPlaced (capacity h) (pushed r h .cursor)
+pushed-placed r h p = pushed-either (λ g. CursorPlaced (capacity h) (g .cursor)) r h (λ none. p) (advanced-placed (capacity h) (h .cursor))

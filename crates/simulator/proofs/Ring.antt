@@ -10,7 +10,7 @@ use lib.ListN.{length, take, drop, set, length-take}
 use lib.Seq.{sets, length-sets, sets-eq, take-at, drop-at, length-take-le, drop-set-add, take-set-le, drop-set-lt}
 use Rattle.history.specs.History.{History, capacity}
 use Rattle.history.specs.Ring.{advanced, previous, retreated, pushed, newest, popped}
-use Rattle.simulator.specs.Taking.{Placed}
+use Rattle.simulator.specs.Taking.{CursorPlaced}
 use Rattle.simulator.proofs.Cursors.{pushed-either, advanced-placed, retreated-placed}
 
 -- slots
@@ -69,7 +69,7 @@ module _ {S : Type 0} (Undoing : List ℕ → S → S → Type 0) where
 
   pub record Ringed (c : ℕ) (h : History) (s : S) (ks : List S) : Type 0 where
     pub size : capacity h ≡ c
-    pub cursor : Placed c (h .cursor)
+    pub cursor : CursorPlaced c (h .cursor)
     pub held : h .cursor .held ≡ length ks
     pub backed : Backed (h .words) c (h .cursor .next) s ks
 
@@ -84,7 +84,7 @@ module _ {S : Type 0} (Undoing : List ℕ → S → S → Type 0) where
       let other : slot m (sets ws (8 * k) r) ≡ slot m ws = slot-other m k ws r e (λ z. apart c k j b g (sym d ∙ z)) in
       (rw other (i .0), keeps c k ws r e b j m x ks (omega arith) d (i .1))
 
-  pub ring-start : (h : History) (s : S) → Placed (capacity h) (h .cursor) → h .cursor .held ≡ 0 → Ringed (capacity h) h s []
+  pub ring-start : (h : History) (s : S) → CursorPlaced (capacity h) (h .cursor) → h .cursor .held ≡ 0 → Ringed (capacity h) h s []
   ring-start h s p e = record { size = refl; cursor = p; held = e; backed = tt }
 
   pub ring-push : (c : ℕ) (h : History) (s s′ : S) (ks : List S) (r : List ℕ) → length r ≡ 8 → Undoing r s′ s → Ringed c h s ks

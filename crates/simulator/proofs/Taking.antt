@@ -20,7 +20,7 @@ use Rattle.history.specs.History.{capacity}
 use Rattle.history.proofs.Recorded.{plan-refusal, recorded, storable}
 use Rattle.simulator.specs.Simulation.{Simulation, wellFormed}
 use Rattle.simulator.specs.Steps.{stepOf}
-use Rattle.simulator.specs.Taking.{Placed, JudgedStorable, carriedOut}
+use Rattle.simulator.specs.Taking.{CursorPlaced, JudgedStorable, judgedCarriedOut}
 use Rattle.simulator.proofs.Cursors.{placed}
 use Rattle.simulator.proofs.Kept.{well-formed}
 
@@ -31,11 +31,11 @@ outcome : (s : State) (w : ℕ) (j : Judged) → sound s ≡ true → plan s w �
 unfolding wordOutcome
 outcome s w j h e = rw e at (plan-outcome s (decodeOf w) h)
 
-pub plan-step : (s : Simulation) (w : ℕ) → wellFormed s ≡ true → carriedOut (plan (s .state) w) s ≡ stepOf s w
-unfolding carriedOut stepOf planOutcome
+pub plan-step : (s : Simulation) (w : ℕ) → wellFormed s ≡ true → judgedCarriedOut (plan (s .state) w) s ≡ stepOf s w
+unfolding judgedCarriedOut stepOf planOutcome
 plan-step s w h = go (plan (s .state) w) refl
   where
-    go : (j : Judged) → plan (s .state) w ≡ j → carriedOut j s ≡ stepOf s w
+    go : (j : Judged) → plan (s .state) w ≡ j → judgedCarriedOut j s ≡ stepOf s w
     go (Refused code) e =
         let o : record { code = code; state = s .state } ≡ wordOutcome true w (s .state) = outcome (s .state) w (Refused code) (well-formed s .0 h .0) e in
         rw (h, ← o, plan-refusal (s .state) (decodeOf w) code e)
@@ -47,7 +47,7 @@ plan-step s w h = go (plan (s .state) w) refl
 pub record Ready (judged : Judged) (s : Simulation) : Type 0 where
   pub within : JudgedWithin judged (length (s .state .tags))
   pub sixteen : length (s .state .bytes) ≡ 16 * length (s .state .tags)
-  pub placed : Placed (capacity (s .history)) (s .history .cursor)
+  pub placed : CursorPlaced (capacity (s .history)) (s .history .cursor)
   pub storable : JudgedStorable judged (s .state .registers .x) (s .state .registers .status) (s .state .bytes) (s .state .tags)
 
 pub plan-ready : (s : Simulation) (w : ℕ) → wellFormed s ≡ true → Ready (plan (s .state) w) s

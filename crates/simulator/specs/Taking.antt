@@ -35,14 +35,14 @@ gathered settings x status bytes tags words cursor =
     record { state = stateOf settings x status bytes tags; history = historyOf words cursor }
 
 -- the rule of the cursor in one: next and held in their ranges, and both 0 if there are no slots
-pub record Placed (c : ℕ) (cursor : Cursor) : Type 0 where
+pub record CursorPlaced (c : ℕ) (cursor : Cursor) : Type 0 where
   pub next : cursor .next < max c 1
   pub held : cursor .held ≤ c
 
 -- what was judged, recorded and applied
-unfoldable pub carriedOut : Judged → Simulation → Out Simulation
-carriedOut (NoEffect code) s = refused code
-carriedOut (Accepted e) s =
+unfoldable pub judgedCarriedOut : Judged → Simulation → Out Simulation
+judgedCarriedOut (NoEffect code) s = refused code
+judgedCarriedOut (Accepted e) s =
     done (record { state = applied e (s .state); history = pushed (wordsOf (entryWith (inverseOn e (s .state)))) (s .history) })
 
 -- a record undone, with the cursor moved back to it
@@ -58,7 +58,7 @@ Took (Went status cursor) s out after = out ≡ done (after status cursor)
 
 -- what was judged, carried out whatever the settings
 abbrev pub Carries : Judged → Taken → (Settings → Simulation) → (Settings → Status → Cursor → Simulation) → Type 0
-Carries judged taken before after = (settings : Settings) → Took taken (before settings) (carriedOut judged (before settings)) (after settings)
+Carries judged taken before after = (settings : Settings) → Took taken (before settings) (judgedCarriedOut judged (before settings)) (after settings)
 
 -- an accepted effect's inverse fits a record
 abbrev pub JudgedStorable : Judged → List ℕ → Status → List ℕ → List ℕ → Type 0

@@ -15,7 +15,7 @@ ghost use Rattle.machine.specs.State.{withMemory};
 ghost use Rattle.simulator.specs.Calls.{answered, inOrder, left};
 ghost use Rattle.simulator.specs.Simulation.{simulation, wellFormed};
 ghost use Rattle.simulator.specs.Steps.{runOf, stepBackOf, stepOf};
-ghost use Rattle.simulator.specs.Taking.{Carries, JudgedStorable, Placed, Took, gathered, historyOf, undoneBy};
+ghost use Rattle.simulator.specs.Taking.{Carries, JudgedStorable, CursorPlaced, Took, gathered, historyOf, undoneBy};
 use instructions::Judged;
 use machine::Code;
 use machine::Cursor;
@@ -64,7 +64,7 @@ fn write_record(
 ) -> Cursor
     requires { ⌜ Within e (length (now tags)) ⌝ }
     requires { ⌜ length (now bytes) ≡ 16 * length (now tags) ⌝ }
-    requires { ⌜ Placed (slotsOf (length (now history))) cursor ⌝ }
+    requires { ⌜ CursorPlaced (slotsOf (length (now history))) cursor ⌝ }
     requires { ⌜ Storable (inverse e (now x) status (now bytes) (now tags)) ⌝ }
     ensures { λ r. ⌜ historyOf (now (history .exit)) r ≡ pushed (wordsOf (entryWith (inverse e (now (x .entry)) status (now (bytes .entry)) (now (tags .entry))))) (historyOf (now (history .entry)) cursor) ⌝ }
 {
@@ -90,7 +90,7 @@ fn carry(
 ) -> Taken
     requires { ⌜ JudgedWithin judged (length (now tags)) ⌝ }
     requires { ⌜ length (now bytes) ≡ 16 * length (now tags) ⌝ }
-    requires { ⌜ Placed (slotsOf (length (now history))) cursor ⌝ }
+    requires { ⌜ CursorPlaced (slotsOf (length (now history))) cursor ⌝ }
     requires { ⌜ JudgedStorable judged (now x) status (now bytes) (now tags) ⌝ }
     ensures { λ r. ⌜ Carries judged r (λ settings. gathered settings (now (x .entry)) status (now (bytes .entry)) (now (tags .entry)) (now (history .entry)) cursor) (λ settings status cursor. gathered settings (now (x .exit)) status (now (bytes .exit)) (now (tags .exit)) (now (history .exit)) cursor) ⌝ }
 {

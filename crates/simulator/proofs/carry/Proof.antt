@@ -4,7 +4,7 @@ use mathlib.Core.Path.{_≡_, refl, sym}
 use Rattle.machine.specs.Effects.{bytesAfter, tagsAfter, xAfter}
 use Rattle.machine.specs.State.{stateOf}
 use Rattle.simulator.specs.Calls.{done}
-use Rattle.simulator.specs.Taking.{carriedOut}
+use Rattle.simulator.specs.Taking.{judgedCarriedOut}
 use Rattle.simulator.proofs.carry.Statement.{statement}
 use Rattle.simulator.proofs.carry.Tie as tie
 
@@ -27,7 +27,7 @@ apply-requires c κs =
     (rw (told .judged2 .given .1) at within, sixteen)
 
 returns : tie.Need-returns
-unfolding carriedOut
+unfolding judgedCarriedOut
 returns c = λ settings. rw (c .before .judged .given .1) (refl, refl)
 
 same-length : tie.Need-same-length
@@ -40,7 +40,7 @@ same-length-3 : tie.Need-same-length-3
 same-length-3 c = search needs
 
 returns-2 : tie.Need-returns-2
-unfolding carriedOut
+unfolding judgedCarriedOut
 returns-2 c =
     let applied = c .before .before .before .before .before in
     let written = applied .before .before .before .before .before .before in

@@ -5,7 +5,7 @@ use Rattle.instructions.specs.declared.Judged.{Judged}
 use Rattle.instructions.proofs.Judgement.{fits}
 use Rattle.simulator.specs.Simulation.{Simulation}
 use Rattle.simulator.specs.Steps.{stepOf}
-use Rattle.simulator.specs.Taking.{carriedOut, gathered}
+use Rattle.simulator.specs.Taking.{judgedCarriedOut, gathered}
 use Rattle.simulator.proofs.Kept.{well-formed}
 use Rattle.simulator.proofs.Taking.{plan, Ready, plan-ready, plan-step}
 use Rattle.simulator.proofs.take.Statement.{statement}
@@ -49,7 +49,7 @@ returns c =
     let a = start .args in
     let s : Simulation = gathered (a .settings) (a .x .now) (a .status) (a .bytes .now) (a .tags .now) (a .history .now) (a .cursor) in
     let p : judged .judge .result ≡ plan (s .state) (a .word) = rw (judged .before .decode .ensures) at (judged .judge .ensures) in
-    let q : carriedOut (judged .judge .result) s ≡ stepOf s (a .word) = ap (λ (j : Judged). carriedOut j s) p ∙ plan-step s (a .word) (start .pre) in
+    let q : judgedCarriedOut (judged .judge .result) s ≡ stepOf s (a .word) = ap (λ (j : Judged). judgedCarriedOut j s) p ∙ plan-step s (a .word) (start .pre) in
     rw (← q) (carried .carry .ensures (a .settings))
 
 pub take-spec : {M : Type 1} → statement M

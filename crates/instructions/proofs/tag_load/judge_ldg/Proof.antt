@@ -12,8 +12,8 @@ use Rattle.instructions.proofs.tag_load.judge_ldg.Tie as tie
 x-or-sp-requires : tie.Need-x-or-sp-requires
 x-or-sp-requires c κs = search needs
 
-address-of-requires : tie.Need-address-of-requires
-address-of-requires c κs = search needs
+ldg-address-requires : tie.Need-ldg-address-requires
+ldg-address-requires c κs = search needs
 
 place-requires : tie.Need-place-requires
 place-requires c κs = search needs
@@ -29,7 +29,7 @@ effect-requires c κs =
     let told = c .before .i .given in
     omega (
       arith,
-      place-inside (a .settings) (length (a .tags .now)) (a .n) (found .before .before .x-or-sp .result) (found .before .address-of .result) false (told .0 .0)
+      place-inside (a .settings) (length (a .tags .now)) (a .n) (found .before .before .x-or-sp .result) (found .before .ldg-address .result) false (told .0 .0)
           (start .pre) (sym (found .place .ensures) ∙ told .1),
     )
 
@@ -39,13 +39,13 @@ enum-known-code c = search needs
 returns : tie.Need-returns
 returns c =
     let found = c .before .before .before .before in
-    let place = rw (found .before .address-of .ensures, found .before .before .x-or-sp .ensures) at (found .place .ensures) in
+    let place = rw (found .before .ldg-address .ensures, found .before .before .x-or-sp .ensures) at (found .place .ensures) in
     rw (← place, c .before .before .i .given .1) (ap Accepted (c .effect .ensures))
 
 returns-2 : tie.Need-returns-2
 returns-2 c =
     let found = c .before .before .before in
-    let place = rw (found .before .address-of .ensures, found .before .before .x-or-sp .ensures) at (found .place .ensures) in
+    let place = rw (found .before .ldg-address .ensures, found .before .before .x-or-sp .ensures) at (found .place .ensures) in
     rw (← place, c .before .code .given .1)
 
 pub judge-ldg-spec : {M : Type 1} → statement M
@@ -53,7 +53,7 @@ judge-ldg-spec =
     tie.close
     (tie.spec
     x-or-sp-requires
-    address-of-requires
+    ldg-address-requires
     place-requires
     enum-known-i
     effect-requires

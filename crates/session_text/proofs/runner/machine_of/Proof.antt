@@ -1,6 +1,6 @@
 -- `session_text::runner::machine_of` meets its contract. Assumes nothing.
 use borrow.Author.Needs.{needs}
-use Rattle.session_text.specs.Run.{machineOf}
+use Rattle.session_text.specs.Run.{machineFor}
 use Rattle.session_text.proofs.runner.machine_of.Statement.{statement}
 use Rattle.session_text.proofs.runner.machine_of.Tie as tie
 
@@ -50,7 +50,7 @@ element-write-registers-4 : tie.Need-element-write-registers-4
 element-write-registers-4 c = search needs
 
 returns : tie.Need-returns
-unfolding machineOf
+unfolding machineFor
 returns c = let f = c .before .before .before .before .before .before .before .before .before .before .before in
     rw (f .fresh .ensures)
 
