@@ -45,7 +45,7 @@ module _ (allowed i : ℕ) (s : List ℕ) (at : ℕ) where
     small : x ≤ kindOf i .most
     small = line-says (kindOf i .key) (kindOf i .digits) (kindOf i .most) s at x next line .0
 
-    in-range : (v : List ℕ) → InRange (i + 1) v → InRange i (x ∷ v)
+    pub in-range : (v : List ℕ) → InRange (i + 1) v → InRange i (x ∷ v)
     in-range v rest zero = rw add-zero small
     in-range v rest (suc j) =
         let same : i + suc j ≡ i + 1 + j = omega arith in
