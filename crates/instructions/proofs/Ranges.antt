@@ -24,15 +24,12 @@ use Rattle.machine.specs.declared.Status.{Status}
 use Rattle.machine.specs.declared.Change.{Change}
 use Rattle.machine.specs.declared.Effect.{Effect}
 use Rattle.machine.specs.State.{State}
-use Rattle.machine.specs.Setup.{sound}
 use Rattle.machine.specs.Registers.{xOrSp, orNone}
-use Rattle.machine.proofs.Setup.{state-status}
 use Rattle.instructions.specs.declared.Judged.the-variants.{Accepted}
 use Rattle.instructions.specs.TagLoad.{ldgAddress}
 use Rattle.instructions.specs.TagStores.{isPair}
 use Rattle.instructions.specs.Accesses.{writebackTo}
 use Rattle.instructions.specs.Plans.{registerEffect, storeEffect, ldgEffect, zeroing, accept, placeOf, formPlan, planOf, decodedFits, IfAccepted}
-use Rattle.instructions.proofs.Statuses.{StatusInRange, plan-statuses}
 use Rattle.instructions.proofs.Within.{accepted}
 
 pub record NumbersInRange (e : Effect) : Type 0 where
@@ -88,9 +85,3 @@ module _ (s : State) (decoded : Decoded) (e : Effect)
   pub plan-register : decodedFits decoded ≡ true → e .register ≤ 32
   plan-register fits =
       subst (IfAccepted NumbersInRange) p (plan-numbers (s .settings) (s .registers .x) (s .registers .status) (s .tags) decoded fits) .register
-
-  pub plan-status-in-range : sound s ≡ true → (e .status .nzcv ≤ 15) × (e .status .rgsr ≤ 15)
-  plan-status-in-range ok =
-      subst (IfAccepted (λ e. StatusInRange (e .status))) p
-      (plan-statuses (s .settings) (s .registers .x) (s .registers .status) (s .tags)
-      (state-status (s .settings) (s .registers .status) (length (s .bytes)) (length (s .tags)) ok) decoded)

@@ -19,6 +19,6 @@ pub(crate) fn write_reached(pointer: u64, part: &[u8]) {
 
 // What is held of the block once its granules have the new tag.
 pub(crate) fn write_held(part: &[u8]) {
-    io::write_all(1, b"retagged while in hand: ");
+    io::write_all(1, b"retagged while held: ");
     write_part(part);
 }

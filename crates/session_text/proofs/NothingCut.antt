@@ -1,10 +1,10 @@
 -- What a session's run comes to fits the digits that it is printed in. Assumes nothing.
-use Prim.Native.Nat.{ℕ, suc, _-_, _^_, _≤_, _<_, zero-le}
+use Prim.Native.Nat.{ℕ, suc, _-_, _≤_, _<_, zero-le}
 use mathlib.Core.Bool.{Bool, true, false, cond}
 use mathlib.Core.List.{List, [], _∷_}
 use mathlib.Core.Path.{_≡_, refl}
 use native.Mathlib.Omega.{arith}
-use lib.ListN.{length, drop, length-drop}
+use lib.ListN.{length, length-drop}
 use Rattle.machine.specs.declared.Code.{Code}
 use Rattle.machine.specs.declared.Code.the-variants.{Done, Setup, Undefined, SpAlign, Align, Outside, NoHistory, BadRecord, Field}
 use Rattle.machine.specs.Codes.{codeNumber}
@@ -14,7 +14,6 @@ use Rattle.simulator.specs.Simulation.{Simulation, machineOf, wellFormed}
 use Rattle.simulator.specs.Steps.{runOf, stepOf}
 use Rattle.simulator.proofs.Kept.{step-keeps}
 use Rattle.session_text.specs.Laws.{NothingIsCut, OnlyGoodIsRead, Printable}
-use Rattle.session_text.specs.Parsing.{good, parsed}
 use Rattle.session_text.specs.Run.{machineFor, ranOf, simulationOf, startOf, wordNumbers}
 use Rattle.session_text.proofs.OnlyGoodSessions.{only-good-is-read}
 

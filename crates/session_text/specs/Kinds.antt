@@ -15,8 +15,18 @@ pub record Kind : Type 0 where
 abbrev pub lineFor : Kind → ℕ → List ℕ
 lineFor kind v = lineText (kind .key) (kind .digits) v
 
+-- any number of 16 digits, and of 4
+
+abbrev pub longKind : List ℕ → Kind
+longKind key = record { key = key; digits = 16; most = 0xffff_ffff_ffff_ffff }
+
+abbrev pub shortKind : List ℕ → Kind
+shortKind key = record { key = key; digits = 4; most = 0xffff }
+
+-- the kinds of a session
+
 abbrev pub baseKind : Kind
-baseKind = record { key = ascii "base="; digits = 16; most = 0xffff_ffff_ffff_ffff }
+baseKind = longKind (ascii "base=")
 
 abbrev pub granulesKind : Kind
 granulesKind = record { key = ascii "granules="; digits = 4; most = 0x400 }
@@ -25,22 +35,22 @@ abbrev pub accessKind : Kind
 accessKind = record { key = ascii "access="; digits = 1; most = 1 }
 
 abbrev pub excludeKind : Kind
-excludeKind = record { key = ascii "exclude="; digits = 4; most = 0xffff }
+excludeKind = shortKind (ascii "exclude=")
 
 abbrev pub seedKind : Kind
-seedKind = record { key = ascii "seed="; digits = 4; most = 0xffff }
+seedKind = shortKind (ascii "seed=")
 
 abbrev pub x0Kind : Kind
-x0Kind = record { key = ascii "x0="; digits = 16; most = 0xffff_ffff_ffff_ffff }
+x0Kind = longKind (ascii "x0=")
 
 abbrev pub x1Kind : Kind
-x1Kind = record { key = ascii "x1="; digits = 16; most = 0xffff_ffff_ffff_ffff }
+x1Kind = longKind (ascii "x1=")
 
 abbrev pub x2Kind : Kind
-x2Kind = record { key = ascii "x2="; digits = 16; most = 0xffff_ffff_ffff_ffff }
+x2Kind = longKind (ascii "x2=")
 
 abbrev pub spKind : Kind
-spKind = record { key = ascii "sp="; digits = 16; most = 0xffff_ffff_ffff_ffff }
+spKind = longKind (ascii "sp=")
 
 abbrev pub wordKind : Kind
 wordKind = record { key = ascii "word="; digits = 8; most = 0xffff_ffff }

@@ -3,7 +3,6 @@
 use mathlib.Core.Path.{_≡_, refl, ap, sym, _∙_}
 use mathlib.Core.Bool.{Bool, true, false}
 use mathlib.Core.List.{List, [], _∷_, _++_, append-assoc}
-use mathlib.Core.Option.{some}
 use Prim.Native.Nat.{ℕ, zero, suc, _+_, _*_, _/_, _%_, _^_, _≤_, _<_}
 use native.Mathlib.Nat.{zero-add, add-assoc, pow-suc, mul-assoc}
 use native.Mathlib.Omega.{arith}
@@ -12,7 +11,8 @@ use lib.ListN.{length, getD, drop, length-append, length-map}
 use lib.Seq.{drop-append-seam, drop-append-add, getD-append-add, getD-at}
 use borrow.Author.Tests.{lt-ltb, le-ltb, le-leb, lt-leb, eq-eqb, ltb-true, ltb-false}
 use Rattle.text.specs.Hex.{valueOf, digitOf, readHex, hexDigits, digitsText, digitsIn, lowBits}
-use Rattle.text.specs.Lines.{starts, framed, capped, lineAt, lineText, digitsLine, digitsLineAt}
+use Rattle.text.specs.Lines.{starts, framed, capped, lineText, digitsLine, digitsLineAt}
+use Rattle.text.specs.RoundTrip.{LineBack, DigitsLineBack}
 use Rattle.text.specs.declared.Hex.the-variants.{Value}
 use Rattle.text.specs.declared.Line.the-variants.{Is}
 use Rattle.text.proofs.Framing.{frame-end, line-framed, capped-is}
@@ -91,9 +91,7 @@ module _ (before key digits behind : List ℕ) where
         let there : starts key (drop (length before) standing) ≡ true = rw (drop-append-seam before) (starts-self key (digits ++ (10 ∷ behind))) in
         frame-end key n standing (length before) (omega arith) there ∙ eq-eqb _ _ at-end
 
--- the line of a number that is put is read, wherever it stands
-pub line-back : (key : List ℕ) (n most v : ℕ) (before behind : List ℕ) → v < 16 ^ n → v ≤ most
-    → lineAt key n most (before ++ (lineText key n v ++ behind)) (length before) ≡ Is v (length before + (length key + n + 1))
+pub line-back : LineBack
 unfolding lineText
 line-back key n most v before behind h k =
     let digits : List ℕ = hexDigits n v in
@@ -111,9 +109,7 @@ digits-in-back (b ∷ t) l =
     let small : b % 16 < 16 = omega arith in
     rw (digit-back (b % 16) small, lt-ltb (b % 16) 16 small) (ap (λ (r : List ℕ). b % 16 ∷ r) (digits-in-back t l))
 
--- the line of digits that is put is read as the low four bits of each byte, wherever it stands
-pub digits-line-back : (key t before behind : List ℕ)
-    → digitsLineAt key (length t) (before ++ (digitsLine key t ++ behind)) (length before) ≡ some (lowBits t)
+pub digits-line-back : DigitsLineBack
 unfolding digitsLine digitsLineAt
 digits-line-back key t before behind =
     let digits : List ℕ = digitsText t in
