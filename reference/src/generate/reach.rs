@@ -1,5 +1,5 @@
-//! Questions for the reachable part: memories whose bytes tell every place
-//! apart, and pointers on both sides of every edge.
+//! Questions for the reachable part: memories whose bytes tell the places of a
+//! small memory apart, and pointers on both sides of every edge.
 
 use super::author::{Author, Script};
 use super::chosen_words::accepted;
