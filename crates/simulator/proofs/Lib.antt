@@ -1,8 +1,10 @@
 -- Laws of the definitions, for the proofs here and in the crates above.
 pub mod Alike
+pub mod AsPlain
 pub mod Cursors
 pub mod Demand3
 pub mod Kept
+pub mod Lists
 pub mod Ring
 pub mod Runs
 pub mod StepsBack

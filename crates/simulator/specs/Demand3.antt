@@ -14,10 +14,16 @@ pub record Agree (ours : Ended Simulation) (plain : Ended Plain) : Type 0 where
   pub answers : ours .answers ≡ plain .answers
   pub state : ours .final .state ≡ plain .final .state
 
--- Start from any well-formed setup with an empty history: held = 0, whatever next is and its words hold. Beside it goes the plain
--- machine, its state equal to ours at the start and its stack empty, with room for as many copies as the history has slots.
+-- the plain machine beside a start: with room for as many copies as the history has slots
+abbrev pub plainBeside : Simulation → Machine Plain
+plainBeside start = plainMachine (slotsOf (length (start .history .words)))
+
+-- its own start: its state equal to ours, its stack empty
+abbrev pub plainStart : Simulation → Plain
+plainStart start = record { state = start .state; copies = [] }
+
+-- Start from any well-formed setup with an empty history: held = 0, whatever next is and its words hold.
 unfoldable pub Demand3 : Machine Simulation → Type 0
 Demand3 ours =
     (start : Simulation) → Typed (start .state) → wellFormed start ≡ true → start .history .cursor .held ≡ 0 → (list : List Call)
-    → Agree (calls ours start list)
-    (calls (plainMachine (slotsOf (length (start .history .words)))) (record { state = start .state; copies = [] }) list)
+    → Agree (calls ours start list) (calls (plainBeside start) (plainStart start) list)

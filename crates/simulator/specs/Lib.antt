@@ -4,3 +4,4 @@ pub mod Steps
 pub mod Taking
 pub mod PlainMachine
 pub mod Demand3
+pub mod Playing

@@ -24,6 +24,14 @@ use machine::Machine;
 use machine::Registers;
 use machine::Settings;
 use machine::Status;
+pub use playing::BACK;
+pub use playing::PlayCode;
+pub use playing::Played;
+pub use playing::RUN;
+pub use playing::STEP;
+pub use playing::play;
+
+mod playing;
 
 // The code of a step or a step back, and the machine after it.
 pub struct Answer {

@@ -1,0 +1,37 @@
+-- A play from a well-formed start with an empty history is the plain machine's: by demand 3. Assumes nothing.
+use Prim.Native.Nat.{ℕ}
+use mathlib.Core.Bool.{Bool, true, false, cond}
+use mathlib.Core.List.{List}
+use mathlib.Core.Path.{_≡_, refl, ap, _∙_}
+use lib.ListN.{length}
+use Rattle.machine.specs.State.{State, Typed}
+use Rattle.simulator.specs.declared.playing.PlayCode.{PlayCode}
+use Rattle.simulator.specs.declared.playing.PlayCode.the-variants.{Done}
+use Rattle.simulator.specs.Calls.{Answer, Call, calls}
+use Rattle.simulator.specs.Demand3.{Agree, Demand3, plainBeside, plainStart}
+use Rattle.simulator.specs.PlainMachine.{Plain}
+use Rattle.simulator.specs.Playing.{AsPlain, Played, isPlayed, listed, onState, playCode, playOf, played, writtenFrom}
+use Rattle.simulator.specs.Simulation.{Simulation}
+use Rattle.simulator.specs.Steps.{simulator}
+use Rattle.simulator.proofs.Demand3.{demand3}
+
+module _ (start : Simulation) (numbers words codes counts : List ℕ) where
+  abbrev list : List Call
+  list = listed numbers words
+
+  abbrev code : PlayCode
+  code = playCode numbers (length words) (length codes) (length counts)
+
+  pub as-plain : (p : Played Simulation) → Typed (start .state) → p ≡ playOf simulator start numbers words codes counts
+      → AsPlain start numbers words codes counts p
+  unfolding AsPlain Demand3 playOf
+  as-plain p typed e formed empty = ap (onState (λ (s : Simulation). s .state)) e ∙ same (isPlayed code)
+    where
+      agree : Agree (calls simulator start list) (calls (plainBeside start) (plainStart start) list)
+      agree = demand3 start typed formed empty list
+
+      same : (b : Bool)
+          → onState (λ (s : Simulation). s .state) (cond b (writtenFrom 0 (length numbers) codes counts (calls simulator start list)) (played code 0 codes counts start))
+          ≡ onState (λ (plain : Plain). plain .state) (cond b (writtenFrom 0 (length numbers) codes counts (calls (plainBeside start) (plainStart start) list)) (played code 0 codes counts (plainStart start)))
+      same true = λ i. writtenFrom 0 (length numbers) codes counts (record { answers = agree .answers i; final = agree .state i })
+      same false = refl

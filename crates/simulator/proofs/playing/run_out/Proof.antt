@@ -1,0 +1,76 @@
+-- `simulator::playing::run_out` meets its contract. The loop's invariant: the words taken so far are those of the calls passed. The
+-- measure is the calls left. Assumes nothing.
+use borrow.Author.Needs.{needs}
+use borrow.Author.Tests.{lt-ltb, le-ltb}
+use Prim.Native.Nat.{_+_, _-_}
+use mathlib.Core.Path.{_≡_, sym}
+use native.Mathlib.Omega.{arith}
+use lib.ListN.{length, drop}
+use Rattle.simulator.specs.Playing.{allTaken}
+use Rattle.simulator.proofs.Lists.{taken-on, taken-end}
+use Rattle.simulator.proofs.playing.run_out.Statement.{statement}
+use Rattle.simulator.proofs.playing.run_out.Tie as tie
+
+abbrev Inv-loop : tie.InvT-loop
+Inv-loop list words rest₀ i₀ rest i = rest + allTaken list ≡ words + allTaken (drop i list)
+
+abbrev μ-loop : tie.MeasureT-loop
+μ-loop list words rest₀ i₀ rest i = length list - i
+
+loop-holds : tie.Need-loop-holds Inv-loop μ-loop
+loop-holds c = search needs
+
+mul-words-taken : tie.Need-mul-words-taken Inv-loop μ-loop
+mul-words-taken c = search needs
+
+shared-slice-read-words-taken : tie.Need-shared-slice-read-words-taken Inv-loop μ-loop
+shared-slice-read-words-taken c = search needs
+
+words-taken-requires : tie.Need-words-taken-requires Inv-loop μ-loop
+words-taken-requires c κs = search needs
+
+returns : tie.Need-returns Inv-loop μ-loop
+returns c =
+    let taken = c .before in
+    let test = taken .before .before in
+    let loop = test .before in
+    let a = loop .before .before .args in
+    let list = a .list .now in
+    sym (lt-ltb (a .words) (allTaken list) (omega (arith, taken .words-taken .ensures, loop .loop .inv, taken-on list (loop .loop .i) (test .loop-test .taken))))
+
+add-i : tie.Need-add-i Inv-loop μ-loop
+add-i c = search needs
+
+loop-less : tie.Need-loop-less Inv-loop μ-loop
+loop-less c = search needs
+
+loop-again : tie.Need-loop-again Inv-loop μ-loop
+loop-again c =
+    let taken = c .before in
+    let test = taken .before .before in
+    let loop = test .before in
+    let list = loop .before .before .args .list .now in
+    omega (arith, taken .words-taken .ensures, loop .loop .inv, taken-on list (loop .loop .i) (test .loop-test .taken))
+
+returns-2 : tie.Need-returns-2 Inv-loop μ-loop
+returns-2 c =
+    let loop = c .before in
+    let a = loop .before .before .args in
+    let list = a .list .now in
+    sym (le-ltb (a .words) (allTaken list) (omega (arith, loop .loop .inv, taken-end list (loop .loop .i) (c .loop-test .left))))
+
+pub run-out-spec : {M : Type 1} → statement M
+run-out-spec =
+    tie.close
+    (tie.spec
+    Inv-loop
+    μ-loop
+    loop-holds
+    mul-words-taken
+    shared-slice-read-words-taken
+    words-taken-requires
+    returns
+    add-i
+    loop-less
+    loop-again
+    returns-2)

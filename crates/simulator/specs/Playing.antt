@@ -1,0 +1,84 @@
+-- A list of calls given as numbers, beside the words that they take in order, and what playing it answers. Document 01, "The plain
+-- machine", has the list of calls; the numbers and the two refusals are of our own making (docs/DECISIONS.md).
+use Prim.Native.Nat.{ℕ, _+_, _-_}
+use mathlib.Core.Bool.{Bool, true, cond, _||_}
+use mathlib.Core.List.{List, [], _∷_, map}
+use mathlib.Core.Path.{_≡_}
+use lib.Dec.{eqb, ltb}
+use lib.ListN.{length, take, drop, getD}
+use lib.Seq.{sets}
+use Rattle.machine.specs.Codes.{codeNumber}
+use Rattle.machine.specs.State.{State}
+use Rattle.simulator.specs.declared.playing.PlayCode.{PlayCode}
+use Rattle.simulator.specs.declared.playing.PlayCode.the-variants.{Done, NoRoom, NoWords}
+use Rattle.simulator.specs.Calls.{Answer, Call, stepCall, runCall, backCall, Ended, Machine, calls}
+use Rattle.simulator.specs.Demand3.{plainBeside, plainStart}
+use Rattle.simulator.specs.PlainMachine.{Plain}
+use Rattle.simulator.specs.Simulation.{Simulation, wellFormed}
+
+-- the call of a number, which takes its words from the first on: 0 steps back, 1 steps, and 2 + n runs n words
+unfoldable pub callOf : ℕ → List ℕ → Call
+callOf number words = cond (eqb number 0) backCall (cond (eqb number 1) (stepCall (getD words 0 0)) (runCall (take (number - 2) words)))
+
+-- how many words it takes
+unfoldable pub wordsTaken : ℕ → ℕ
+wordsTaken number = cond (eqb number 0) 0 (cond (eqb number 1) 1 (number - 2))
+
+-- the calls, each on the words that are left
+unfoldable pub listed : List ℕ → List ℕ → List Call
+listed [] words = []
+listed (n ∷ ns) words = callOf n words ∷ listed ns (drop (wordsTaken n) words)
+
+unfoldable pub allTaken : List ℕ → ℕ
+allTaken [] = 0
+allTaken (n ∷ ns) = wordsTaken n + allTaken ns
+
+abbrev pub playNumber : PlayCode → ℕ
+playNumber Done = 0
+playNumber NoRoom = 10
+playNumber NoWords = 15
+
+abbrev pub isPlayed : PlayCode → Bool
+isPlayed code = eqb (playNumber code) 0
+
+-- NOROOM if there are fewer places for codes or fewer for counts than calls, NOWORDS if the calls take more words than there are; the
+-- lower if both apply
+unfoldable pub playCode : List ℕ → ℕ → ℕ → ℕ → PlayCode
+playCode numbers words codes counts =
+    cond (ltb codes (length numbers) || ltb counts (length numbers)) NoRoom (cond (ltb words (allTaken numbers)) NoWords Done)
+
+-- the code of the list, how many of its calls were played, the places for codes and for counts, and the machine after it
+pub record Played (X : Type 0) : Type 0 where
+  pub code : PlayCode
+  pub count : ℕ
+  pub codes : List ℕ
+  pub counts : List ℕ
+  pub after : X
+
+abbrev pub played : {X : Type 0} → PlayCode → ℕ → List ℕ → List ℕ → X → Played X
+played code count codes counts after = record { code = code; count = count; codes = codes; counts = counts; after = after }
+
+-- the answers' codes and counts are written from place i on; the places behind them stay
+abbrev pub writtenFrom : {X : Type 0} → ℕ → ℕ → List ℕ → List ℕ → Ended X → Played X
+writtenFrom i count codes counts e =
+    played Done count (sets codes i (map (λ (a : Answer). codeNumber (a .code)) (e .answers)))
+    (sets counts i (map (λ (a : Answer). a .count) (e .answers))) (e .final)
+
+-- a list is played whole, or refused and nothing changes
+unfoldable pub playOf : {X : Type 0} → Machine X → X → List ℕ → List ℕ → List ℕ → List ℕ → Played X
+playOf m start numbers words codes counts =
+    let code : PlayCode = playCode numbers (length words) (length codes) (length counts) in
+    cond (isPlayed code) (writtenFrom 0 (length numbers) codes counts (calls m start (listed numbers words)))
+    (played code 0 codes counts start)
+
+-- what is left of a play without the history: all that is compared with the plain machine
+abbrev pub onState : {X : Type 0} → (X → State) → Played X → Played State
+onState state p = played (p .code) (p .count) (p .codes) (p .counts) (state (p .after))
+
+-- Demand 3 of one play: from a well-formed start with an empty history, the code of the list, every code and count of its calls and
+-- the whole state after them are what the plain machine gives on the same list.
+unfoldable pub AsPlain : Simulation → List ℕ → List ℕ → List ℕ → List ℕ → Played Simulation → Type 0
+AsPlain start numbers words codes counts p =
+    wellFormed start ≡ true → start .history .cursor .held ≡ 0
+    → onState (λ (s : Simulation). s .state) p
+    ≡ onState (λ (plain : Plain). plain .state) (playOf (plainBeside start) (plainStart start) numbers words codes counts)

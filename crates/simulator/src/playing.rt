@@ -1,0 +1,198 @@
+// A list of calls played one after the other. The calls are numbers, beside the words that they take in order.
+ghost use mathlib.Core.Bool.{not};
+ghost use mathlib.Core.Path.{_≡_};
+ghost use Prim.Native.Nat.{_^_, _<_, _≤_};
+ghost use lib.Dec.{ltb};
+ghost use lib.ListN.{length};
+ghost use Rattle.simulator.specs.declared.playing.PlayCode.the-variants.{Done};
+ghost use Rattle.simulator.specs.Calls.{call, calls, left};
+ghost use Rattle.simulator.specs.Playing.{AsPlain, allTaken, callOf, listed, playCode, playNumber, playOf, played, wordsTaken, writtenFrom};
+ghost use Rattle.simulator.specs.Simulation.{simulation};
+ghost use Rattle.simulator.specs.Steps.{simulator};
+use super::Answer;
+use super::Ran;
+use super::run;
+use super::step;
+use super::step_back;
+use machine::Machine;
+
+// The numbers of the calls: a step back, a step, and RUN + n for a run of n words.
+pub const BACK: usize = 0;
+
+pub const STEP: usize = 1;
+
+pub const RUN: usize = 2;
+
+// The code of a list: it was played, or why it was not.
+pub enum PlayCode {
+    Done,
+    NoRoom,
+    NoWords,
+}
+
+impl PlayCode {
+    pub fn number(self) -> u32
+        ensures { λ r. ⌜ r ≡ playNumber self ⌝ }
+    {
+        match self {
+            PlayCode::Done => 0,
+            PlayCode::NoRoom => 10,
+            PlayCode::NoWords => 15,
+        }
+    }
+}
+
+// The code of a list, how many of its calls were played, and the machine after them.
+pub struct Played {
+    pub code: PlayCode,
+    pub count: usize,
+    pub machine: Machine,
+}
+
+// How many words the call of a number takes.
+fn words_taken(number: usize) -> usize
+    ensures { λ r. ⌜ r ≡ wordsTaken number ⌝ }
+{
+    match number {
+        BACK => 0,
+        STEP => 1,
+        _ => number - RUN,
+    }
+}
+
+// Whether so many words are too few for the calls.
+fn run_out(list: &[usize], words: usize) -> bool
+    ensures { λ r. ⌜ r ≡ ltb words (allTaken (now (list .entry))) ⌝ }
+{
+    let mut rest = words;
+    let mut i = 0;
+    while i < list.len() {
+        let taken = words_taken(list[i]);
+        if rest < taken {
+            return true;
+        }
+        rest -= taken;
+        i += 1;
+    }
+    false
+}
+
+// The code of a list, by what it is lent.
+fn judge(list: &[usize], words: usize, codes: usize, counts: usize) -> PlayCode
+    ensures { λ r. ⌜ r ≡ playCode (now (list .entry)) words codes counts ⌝ }
+{
+    if codes < list.len() {
+        return PlayCode::NoRoom;
+    }
+    if counts < list.len() {
+        return PlayCode::NoRoom;
+    }
+    if run_out(list, words) {
+        return PlayCode::NoWords;
+    }
+    PlayCode::Done
+}
+
+// A step or a step back as a run, which has done no words.
+fn uncounted(answer: Answer) -> Ran
+    ensures { λ r. ⌜ (r .code ≡ answer .code) × (r .count ≡ 0) × (r .machine ≡ answer .machine) ⌝ }
+{
+    let code = answer.code;
+    let machine = answer.machine;
+    Ran {
+        code: code,
+        count: 0,
+        machine: machine,
+    }
+}
+
+// Makes the call of a number, which takes its words from the first on.
+fn make_call(
+    machine: Machine,
+    number: usize,
+    words: &[u32],
+    bytes: &mut [u8],
+    tags: &mut [u8],
+    history: &mut [u64],
+) -> Ran
+    requires { ⌜ wordsTaken number ≤ length (now words) ⌝ }
+    ensures { λ r. ⌜ left (r .code) (r .count) (simulation (r .machine) (now (bytes .exit)) (now (tags .exit)) (now (history .exit))) ≡ call simulator (simulation machine (now (bytes .entry)) (now (tags .entry)) (now (history .entry))) (callOf number (now (words .entry))) ⌝ }
+{
+    match number {
+        BACK => uncounted(step_back(machine, bytes, tags, history)),
+        STEP => uncounted(step(machine, words[0], bytes, tags, history)),
+        _ => {
+            let n = number - RUN;
+            run(machine, &words[..n], bytes, tags, history)
+        },
+    }
+}
+
+// Makes all calls, each with the machine and the buffers as the last one left them.
+fn make_calls(
+    machine: Machine,
+    list: &[usize],
+    words: &[u32],
+    bytes: &mut [u8],
+    tags: &mut [u8],
+    history: &mut [u64],
+    codes: &mut [u32],
+    counts: &mut [usize],
+) -> Machine
+    requires { ⌜ allTaken (now list) ≤ length (now words) ⌝ }
+    requires { ⌜ length (now list) ≤ length (now codes) ⌝ }
+    requires { ⌜ length (now list) ≤ length (now counts) ⌝ }
+    ensures { λ r. ⌜ played Done (length (now (list .entry))) (now (codes .exit)) (now (counts .exit)) (simulation r (now (bytes .exit)) (now (tags .exit)) (now (history .exit))) ≡ writtenFrom 0 (length (now (list .entry))) (now (codes .entry)) (now (counts .entry)) (calls simulator (simulation machine (now (bytes .entry)) (now (tags .entry)) (now (history .entry))) (listed (now (list .entry)) (now (words .entry)))) ⌝ }
+{
+    let mut current = machine;
+    let mut at = 0;
+    let mut i = 0;
+    while i < list.len() {
+        let number = list[i];
+        let ran = make_call(current, number, &words[at..], bytes, tags, history);
+        let code = ran.code;
+        let after = ran.machine;
+        codes[i] = code.number();
+        counts[i] = ran.count;
+        current = after;
+        at += words_taken(number);
+        i += 1;
+    }
+    current
+}
+
+// Shows of a seed what its type says, which the prover does not read off a struct's field.
+fn seed_is_short(seed: u16)
+    ensures { λ r. ⌜ seed < 2 ^ 16 ⌝ }
+{}
+
+// Plays a list of calls: steps, runs and steps back, one after the other. The codes and counts go to the first places of their slices.
+pub fn play(
+    machine: Machine,
+    list: &[usize],
+    words: &[u32],
+    bytes: &mut [u8],
+    tags: &mut [u8],
+    history: &mut [u64],
+    codes: &mut [u32],
+    counts: &mut [usize],
+) -> Played
+    ensures { λ r. ⌜ played (r .code) (r .count) (now (codes .exit)) (now (counts .exit)) (simulation (r .machine) (now (bytes .exit)) (now (tags .exit)) (now (history .exit))) ≡ playOf simulator (simulation machine (now (bytes .entry)) (now (tags .entry)) (now (history .entry))) (now (list .entry)) (now (words .entry)) (now (codes .entry)) (now (counts .entry)) ⌝ }
+    ensures { λ r. ⌜ AsPlain (simulation machine (now (bytes .entry)) (now (tags .entry)) (now (history .entry))) (now (list .entry)) (now (words .entry)) (now (codes .entry)) (now (counts .entry)) (played (r .code) (r .count) (now (codes .exit)) (now (counts .exit)) (simulation (r .machine) (now (bytes .exit)) (now (tags .exit)) (now (history .exit)))) ⌝ }
+{
+    seed_is_short(machine.registers.status.seed);
+    let code = judge(list, words.len(), codes.len(), counts.len());
+    if code.number() == 0 {
+        let after = make_calls(machine, list, words, bytes, tags, history, codes, counts);
+        return Played {
+            code: code,
+            count: list.len(),
+            machine: after,
+        };
+    }
+    Played {
+        code: code,
+        count: 0,
+        machine: machine,
+    }
+}
