@@ -1,12 +1,10 @@
 // A list of calls played one after the other. The calls are numbers, beside the words that they take in order.
-ghost use mathlib.Core.Bool.{not};
 ghost use mathlib.Core.Path.{_≡_};
 ghost use Prim.Native.Nat.{_^_, _<_, _≤_};
 ghost use lib.Dec.{ltb};
 ghost use lib.ListN.{length};
-ghost use Rattle.simulator.specs.declared.playing.PlayCode.the-variants.{Done};
-ghost use Rattle.simulator.specs.Calls.{call, calls, left};
-ghost use Rattle.simulator.specs.Playing.{AsPlain, allTaken, callOf, listed, playCode, playNumber, playOf, played, wordsTaken, writtenFrom};
+ghost use Rattle.simulator.specs.Calls.{call, left};
+ghost use Rattle.simulator.specs.Playing.{AsPlain, allTaken, callOf, playCode, playNumber, playOf, played, wordsTaken};
 ghost use Rattle.simulator.specs.Simulation.{simulation};
 ghost use Rattle.simulator.specs.Steps.{simulator};
 use super::Answer;
@@ -128,45 +126,12 @@ fn make_call(
     }
 }
 
-// Makes all calls, each with the machine and the buffers as the last one left them.
-fn make_calls(
-    machine: Machine,
-    list: &[usize],
-    words: &[u32],
-    bytes: &mut [u8],
-    tags: &mut [u8],
-    history: &mut [u64],
-    codes: &mut [u32],
-    counts: &mut [usize],
-) -> Machine
-    requires { ⌜ allTaken (now list) ≤ length (now words) ⌝ }
-    requires { ⌜ length (now list) ≤ length (now codes) ⌝ }
-    requires { ⌜ length (now list) ≤ length (now counts) ⌝ }
-    ensures { λ r. ⌜ played Done (length (now (list .entry))) (now (codes .exit)) (now (counts .exit)) (simulation r (now (bytes .exit)) (now (tags .exit)) (now (history .exit))) ≡ writtenFrom 0 (length (now (list .entry))) (now (codes .entry)) (now (counts .entry)) (calls simulator (simulation machine (now (bytes .entry)) (now (tags .entry)) (now (history .entry))) (listed (now (list .entry)) (now (words .entry)))) ⌝ }
-{
-    let mut current = machine;
-    let mut at = 0;
-    let mut i = 0;
-    while i < list.len() {
-        let number = list[i];
-        let ran = make_call(current, number, &words[at..], bytes, tags, history);
-        let code = ran.code;
-        let after = ran.machine;
-        codes[i] = code.number();
-        counts[i] = ran.count;
-        current = after;
-        at += words_taken(number);
-        i += 1;
-    }
-    current
-}
-
 // Shows of a seed what its type says, which the prover does not read off a struct's field.
 fn seed_is_short(seed: u16)
     ensures { λ r. ⌜ seed < 2 ^ 16 ⌝ }
 {}
 
-// Plays a list of calls: steps, runs and steps back, one after the other. The codes and counts go to the first places of their slices.
+// Plays a list of calls, each with the machine and the buffers as the last one left them. Code and count of the call at i go to place i.
 pub fn play(
     machine: Machine,
     list: &[usize],
@@ -182,17 +147,30 @@ pub fn play(
 {
     seed_is_short(machine.registers.status.seed);
     let code = judge(list, words.len(), codes.len(), counts.len());
-    if code.number() == 0 {
-        let after = make_calls(machine, list, words, bytes, tags, history, codes, counts);
+    if code.number() != 0 {
         return Played {
             code: code,
-            count: list.len(),
-            machine: after,
+            count: 0,
+            machine: machine,
         };
+    }
+    let mut current = machine;
+    let mut at = 0;
+    let mut i = 0;
+    while i < list.len() {
+        let number = list[i];
+        let ran = make_call(current, number, &words[at..], bytes, tags, history);
+        let answer = ran.code;
+        let after = ran.machine;
+        codes[i] = answer.number();
+        counts[i] = ran.count;
+        current = after;
+        at += words_taken(number);
+        i += 1;
     }
     Played {
         code: code,
-        count: 0,
-        machine: machine,
+        count: i,
+        machine: current,
     }
 }

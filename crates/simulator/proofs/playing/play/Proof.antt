@@ -1,14 +1,30 @@
--- `simulator::playing::play` meets its contract: both promises. Assumes nothing.
+-- `simulator::playing::play` meets its contract: both promises. The loop's invariant: what is left of the list is the list, with the
+-- answers written up to the call. The measure is the calls left. Assumes nothing.
 use borrow.Author.Needs.{needs}
-use mathlib.Core.Path.{sym, _∙_}
+use Prim.Native.Nat.{_-_, _≤_}
+use mathlib.Core.Path.{_≡_, refl, sym, _∙_}
+use native.Mathlib.Omega.{arith}
+use lib.ListN.{length, length-set}
+use Rattle.machine.proofs.Parts.{lent-part}
 use Rattle.machine.specs.State.{Typed, withMemory}
+use Rattle.simulator.specs.Simulation.{simulation}
 use Rattle.simulator.proofs.AsPlain.{as-plain}
-use Rattle.simulator.proofs.Lists.{is-done, not-refused, when-done, when-refused}
+use Rattle.simulator.proofs.Lists.{Lent, Reached, at-start, at-end, has-words, is-done, not-refused, one-on, taken-on, when-done, when-refused}
 use Rattle.simulator.proofs.playing.play.Statement.{statement}
 use Rattle.simulator.proofs.playing.play.Tie as tie
 
+abbrev Inv-loop : tie.InvT-loop
+Inv-loop list words bytes₀ tags₀ history₀ codes₀ counts₀ code current₀ at₀ i₀ bytes tags history codes counts current at i =
+    (length bytes ≡ length bytes₀) × (length tags ≡ length tags₀) × (length history ≡ length history₀)
+    × (length codes ≡ length codes₀) × (length counts ≡ length counts₀) × (i ≤ length list)
+    × Reached list words (simulation current₀ bytes₀ tags₀ history₀) codes₀ counts₀ i at (simulation current bytes tags history) codes counts
+
+abbrev μ-loop : tie.MeasureT-loop
+μ-loop list words bytes₀ tags₀ history₀ codes₀ counts₀ code current₀ at₀ i₀ bytes tags history codes counts current at i =
+    length list - i
+
 -- what the types of the parameters say
-typed : (c : tie.After-seed-is-short) → Typed (withMemory (c .before .before .before .before .before .before .before .before .args .machine) (c .before .before .before .before .before .before .before .before .args .bytes .now) (c .before .before .before .before .before .before .before .before .args .tags .now))
+typed : (c : tie.After-seed-is-short Inv-loop μ-loop) → Typed (withMemory (c .before .before .before .before .before .before .before .before .args .machine) (c .before .before .before .before .before .before .before .before .args .bytes .now) (c .before .before .before .before .before .before .before .before .args .tags .now))
 typed c =
     record {
       seed = c .seed-is-short .ensures;
@@ -16,64 +32,174 @@ typed c =
       tags = λ i. c .before .before .before .before .slice-known2 .given i .fits;
     }
 
-seed-is-short-requires : tie.Need-seed-is-short-requires
+-- the list was not refused
+lent : (c : tie.Else1 Inv-loop μ-loop) → Lent (c .before .before .before .before .before .before .before .before .before .before .before .args .list .now) (length (c .before .before .before .before .before .before .before .before .before .before .before .args .words .now)) (length (c .before .before .before .before .before .before .before .before .before .before .before .args .codes .now)) (length (c .before .before .before .before .before .before .before .before .before .before .before .args .counts .now))
+lent c = not-refused _ _ _ _ (sym (c .before .before .judge .ensures) ∙ is-done _ (sym (c .before .number .ensures) ∙ c .if1 .left))
+
+seed-is-short-requires : tie.Need-seed-is-short-requires Inv-loop μ-loop
 seed-is-short-requires c κs = search needs
 
-judge-requires : tie.Need-judge-requires
+judge-requires : tie.Need-judge-requires Inv-loop μ-loop
 judge-requires c κs = search needs
 
-number-requires : tie.Need-number-requires
+number-requires : tie.Need-number-requires Inv-loop μ-loop
 number-requires c κs = search needs
 
-make-calls-requires : tie.Need-make-calls-requires
-make-calls-requires c κs =
-    let test = c .before .before .before .before .before in
-    let judged = test .before .before in
-    let code = is-done _ (sym (test .before .number .ensures) ∙ test .if1 .taken) in
-    let lent = not-refused _ _ _ _ (sym (judged .judge .ensures) ∙ code) in
-    (lent .words, (lent .codes, lent .counts))
-
-same-length : tie.Need-same-length
-same-length c = search needs
-
-same-length-2 : tie.Need-same-length-2
-same-length-2 c = search needs
-
-same-length-3 : tie.Need-same-length-3
-same-length-3 c = search needs
-
-same-length-4 : tie.Need-same-length-4
-same-length-4 c = search needs
-
-same-length-5 : tie.Need-same-length-5
-same-length-5 c = search needs
-
-returns : tie.Need-returns
+returns : tie.Need-returns Inv-loop μ-loop
 returns c =
-    let made = c .before .before .before .before .before .before .before .before .before .before in
-    let test = made .before .before .before .before .before .before in
-    let judged = test .before .before in
-    let p = when-done _ _ _ _ _ _ (judged .judge .ensures) (sym (test .before .number .ensures) ∙ test .if1 .taken) _ (made .make-calls .ensures) in
+    let judged = c .before .before in
+    let p = when-refused _ _ _ _ _ _ (judged .judge .ensures) (λ done. c .if1 .taken (c .before .number .ensures ∙ done)) in
     (p, as-plain _ _ _ _ _ _ (typed (judged .before)) p)
 
-returns-2 : tie.Need-returns-2
+loop-holds : tie.Need-loop-holds Inv-loop μ-loop
+loop-holds c = (refl, refl, refl, refl, refl, omega arith, at-start _ _ _ _ _ (lent c .words))
+
+mul-number : tie.Need-mul-number Inv-loop μ-loop
+mul-number c = search needs
+
+shared-slice-read-number : tie.Need-shared-slice-read-number Inv-loop μ-loop
+shared-slice-read-number c = search needs
+
+mul-make-call : tie.Need-mul-make-call Inv-loop μ-loop
+mul-make-call c = search needs
+
+sub-make-call : tie.Need-sub-make-call Inv-loop μ-loop
+sub-make-call c = search needs
+
+part-make-call-start : tie.Need-part-make-call-start Inv-loop μ-loop
+part-make-call-start c = search needs
+
+part-make-call-end : tie.Need-part-make-call-end Inv-loop μ-loop
+part-make-call-end c = search needs
+
+make-call-requires : tie.Need-make-call-requires Inv-loop μ-loop
+make-call-requires c κs =
+    let test = c .before .before .before .before .before in
+    let loop = test .before in
+    rw (lent-part (loop .loop .at) _) (has-words _ _ _ _ _ _ _ _ _ _ (loop .loop .inv .6) (test .loop-test .taken))
+
+number-requires-2 : tie.Need-number-requires-2 Inv-loop μ-loop
+number-requires-2 c κs = search needs
+
+mul-codes : tie.Need-mul-codes Inv-loop μ-loop
+mul-codes c =
+    let test = c .before .before .before .before .before .before .before .before .before .before .before .before .before .before in
+    let loop = test .before in
+    let start = loop .before .before .before .before .before .before .before .before .before .before .before .before in
+    omega (arith, start .good, lent (loop .before) .codes, loop .loop .inv .3, test .loop-test .taken)
+
+slice-write-codes : tie.Need-slice-write-codes Inv-loop μ-loop
+slice-write-codes c =
+    let test = c .before .before .before .before .before .before .before .before .before .before .before .before .before .before in
+    let loop = test .before in
+    omega (arith, lent (loop .before) .codes, loop .loop .inv .3, test .loop-test .taken)
+
+mul-counts : tie.Need-mul-counts Inv-loop μ-loop
+mul-counts c =
+    let test = c .before .before .before .before .before .before .before .before .before .before .before .before .before .before in
+    let loop = test .before in
+    let start = loop .before .before .before .before .before .before .before .before .before .before .before .before in
+    omega (arith, start .good, lent (loop .before) .counts, loop .loop .inv .4, test .loop-test .taken)
+
+slice-write-counts : tie.Need-slice-write-counts Inv-loop μ-loop
+slice-write-counts c =
+    let test = c .before .before .before .before .before .before .before .before .before .before .before .before .before .before in
+    let loop = test .before in
+    omega (arith, lent (loop .before) .counts, loop .loop .inv .4, test .loop-test .taken)
+
+words-taken-requires : tie.Need-words-taken-requires Inv-loop μ-loop
+words-taken-requires c κs = search needs
+
+add-at : tie.Need-add-at Inv-loop μ-loop
+add-at c =
+    let test = c .before .before .before .before .before .before .before .before .before .before .before .before .before .before .before in
+    let loop = test .before in
+    let start = loop .before .before .before .before .before .before .before .before .before .before .before .before in
+    let here = taken-on (start .args .list .now) (loop .loop .i) (test .loop-test .taken) in
+    omega (arith, c .words-taken .ensures, start .good, loop .loop .inv .6 .enough, here)
+
+add-i : tie.Need-add-i Inv-loop μ-loop
+add-i c =
+    let test = c .before .before .before .before .before .before .before .before .before .before .before .before .before .before .before in
+    omega (arith, test .before .before .before .before .before .before .before .before .before .before .before .before .before .good, test .loop-test .taken)
+
+loop-less : tie.Need-loop-less Inv-loop μ-loop
+loop-less c = search needs
+
+loop-again : tie.Need-loop-again Inv-loop μ-loop
+loop-again c =
+    let made = c .before .before .before .before .before .before .before .before .before in
+    let test = made .before .before .before .before .before .before in
+    let loop = test .before in
+    let inv = loop .loop .inv in
+    let kept = made .make-call .kept in
+    let call = rw (lent-part (loop .loop .at) _) at (made .make-call .ensures) in
+    let on = one-on _ _ _ _ _ _ _ _ _ _ (inv .6) (test .loop-test .taken) _ call in (
+      kept .1 .1 .1 .0 ∙ inv .0,
+      kept .1 .1 .1 .1 .0 ∙ inv .1,
+      kept .1 .1 .1 .1 .1 .0 ∙ inv .2,
+      length-set (loop .loop .codes) (loop .loop .i) (c .before .number2 .result) ∙ inv .3,
+      length-set (loop .loop .counts) (loop .loop .i) (made .make-call .result .count) ∙ inv .4,
+      omega (arith, test .loop-test .taken),
+      rw (c .words-taken .ensures, c .before .number2 .ensures) on,
+    )
+
+same-length : tie.Need-same-length Inv-loop μ-loop
+same-length c = search needs
+
+same-length-2 : tie.Need-same-length-2 Inv-loop μ-loop
+same-length-2 c = search needs
+
+same-length-3 : tie.Need-same-length-3 Inv-loop μ-loop
+same-length-3 c = search needs
+
+same-length-4 : tie.Need-same-length-4 Inv-loop μ-loop
+same-length-4 c = search needs
+
+same-length-5 : tie.Need-same-length-5 Inv-loop μ-loop
+same-length-5 c = search needs
+
+returns-2 : tie.Need-returns-2 Inv-loop μ-loop
 returns-2 c =
-    let judged = c .before .before in
-    let p = when-refused _ _ _ _ _ _ (judged .judge .ensures) (λ done. c .if1 .left (c .before .number .ensures ∙ done)) in
+    let loop = c .before in
+    let inv = loop .loop .inv in
+    let test = loop .before in
+    let judged = test .before .before in
+    let ended = at-end _ _ _ _ _ _ _ _ _ _ (inv .6) (inv .5) (c .loop-test .left) in
+    let p = when-done _ _ _ _ _ _ (judged .judge .ensures) (sym (test .before .number .ensures) ∙ test .if1 .left) _ ended in
     (p, as-plain _ _ _ _ _ _ (typed (judged .before)) p)
 
 pub play-spec : {M : Type 1} → statement M
 play-spec =
     tie.close
     (tie.spec
+    Inv-loop
+    μ-loop
     seed-is-short-requires
     judge-requires
     number-requires
-    make-calls-requires
+    returns
+    loop-holds
+    mul-number
+    shared-slice-read-number
+    mul-make-call
+    sub-make-call
+    part-make-call-start
+    part-make-call-end
+    make-call-requires
+    number-requires-2
+    mul-codes
+    slice-write-codes
+    mul-counts
+    slice-write-counts
+    words-taken-requires
+    add-at
+    add-i
+    loop-less
+    loop-again
     same-length
     same-length-2
     same-length-3
     same-length-4
     same-length-5
-    returns
     returns-2)
