@@ -4,10 +4,9 @@ use mathlib.Core.Bool.{Bool, true, false, cond}
 use mathlib.Core.List.{List}
 use mathlib.Core.Path.{_≡_, refl, ap, _∙_}
 use lib.ListN.{length}
-use Rattle.machine.specs.State.{State, Typed}
+use Rattle.machine.specs.State.{Typed}
 use Rattle.simulator.specs.declared.playing.PlayCode.{PlayCode}
-use Rattle.simulator.specs.declared.playing.PlayCode.the-variants.{Done}
-use Rattle.simulator.specs.Calls.{Answer, Call, calls}
+use Rattle.simulator.specs.Calls.{Call, calls}
 use Rattle.simulator.specs.Demand3.{Agree, Demand3, plainBeside, plainStart}
 use Rattle.simulator.specs.PlainMachine.{Plain}
 use Rattle.simulator.specs.Playing.{AsPlain, Played, isPlayed, listed, onState, playCode, playOf, played, writtenFrom}

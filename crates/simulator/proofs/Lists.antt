@@ -40,11 +40,9 @@ module _ (list words : List ℕ) (start : Simulation) (codes₀ counts₀ : List
   at-start h = record { enough = omega (arith, h); rest = refl }
 
   module _ (i at : ℕ) (s : Simulation) (codes counts : List ℕ) (reached : Reached i at s codes counts) where
-    pub at-end : i ≤ length list → length list ≤ i → played Done i codes counts s ≡ whole
+    pub at-end : length list ≤ i → played Done (length list) codes counts s ≡ whole
     unfolding calls listed
-    at-end h k =
-        let all : i ≡ length list = omega (arith, h, k) in
-        ap (λ (n : ℕ). played Done n codes counts s) all ∙ (rw (drop-of-length-le list k) at (reached .rest))
+    at-end h = rw (drop-of-length-le list h) at (reached .rest)
 
     module _ (inside : i < length list) where
       pub has-words : wordsTaken (getD list i 0) ≤ length (drop at words)

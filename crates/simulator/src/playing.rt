@@ -48,13 +48,13 @@ pub struct Played {
 }
 
 // How many words the call of a number takes.
-fn words_taken(number: usize) -> usize
-    ensures { λ r. ⌜ r ≡ wordsTaken number ⌝ }
+fn words_taken(call: usize) -> usize
+    ensures { λ r. ⌜ r ≡ wordsTaken call ⌝ }
 {
-    match number {
+    match call {
         BACK => 0,
         STEP => 1,
-        _ => number - RUN,
+        _ => call - RUN,
     }
 }
 
@@ -63,14 +63,14 @@ fn run_out(list: &[usize], words: usize) -> bool
     ensures { λ r. ⌜ r ≡ ltb words (allTaken (now (list .entry))) ⌝ }
 {
     let mut rest = words;
-    let mut i = 0;
-    while i < list.len() {
-        let taken = words_taken(list[i]);
+    let mut passed = 0;
+    while passed < list.len() {
+        let taken = words_taken(list[passed]);
         if rest < taken {
             return true;
         }
         rest -= taken;
-        i += 1;
+        passed += 1;
     }
     false
 }
@@ -170,7 +170,7 @@ pub fn play(
     }
     Played {
         code: code,
-        count: i,
+        count: list.len(),
         machine: current,
     }
 }

@@ -1,7 +1,7 @@
 -- `simulator::playing::play` meets its contract: both promises. The loop's invariant: what is left of the list is the list, with the
 -- answers written up to the call. The measure is the calls left. Assumes nothing.
 use borrow.Author.Needs.{needs}
-use Prim.Native.Nat.{_-_, _≤_}
+use Prim.Native.Nat.{_-_}
 use mathlib.Core.Path.{_≡_, refl, sym, _∙_}
 use native.Mathlib.Omega.{arith}
 use lib.ListN.{length, length-set}
@@ -16,7 +16,7 @@ use Rattle.simulator.proofs.playing.play.Tie as tie
 abbrev Inv-loop : tie.InvT-loop
 Inv-loop list words bytes₀ tags₀ history₀ codes₀ counts₀ code current₀ at₀ i₀ bytes tags history codes counts current at i =
     (length bytes ≡ length bytes₀) × (length tags ≡ length tags₀) × (length history ≡ length history₀)
-    × (length codes ≡ length codes₀) × (length counts ≡ length counts₀) × (i ≤ length list)
+    × (length codes ≡ length codes₀) × (length counts ≡ length counts₀)
     × Reached list words (simulation current₀ bytes₀ tags₀ history₀) codes₀ counts₀ i at (simulation current bytes tags history) codes counts
 
 abbrev μ-loop : tie.MeasureT-loop
@@ -52,7 +52,7 @@ returns c =
     (p, as-plain _ _ _ _ _ _ (typed (judged .before)) p)
 
 loop-holds : tie.Need-loop-holds Inv-loop μ-loop
-loop-holds c = (refl, refl, refl, refl, refl, omega arith, at-start _ _ _ _ _ (lent c .words))
+loop-holds c = (refl, refl, refl, refl, refl, at-start _ _ _ _ _ (lent c .words))
 
 mul-number : tie.Need-mul-number Inv-loop μ-loop
 mul-number c = search needs
@@ -76,7 +76,7 @@ make-call-requires : tie.Need-make-call-requires Inv-loop μ-loop
 make-call-requires c κs =
     let test = c .before .before .before .before .before in
     let loop = test .before in
-    rw (lent-part (loop .loop .at) _) (has-words _ _ _ _ _ _ _ _ _ _ (loop .loop .inv .6) (test .loop-test .taken))
+    rw (lent-part (loop .loop .at) _) (has-words _ _ _ _ _ _ _ _ _ _ (loop .loop .inv .5) (test .loop-test .taken))
 
 number-requires-2 : tie.Need-number-requires-2 Inv-loop μ-loop
 number-requires-2 c κs = search needs
@@ -116,7 +116,7 @@ add-at c =
     let loop = test .before in
     let start = loop .before .before .before .before .before .before .before .before .before .before .before .before in
     let here = taken-on (start .args .list .now) (loop .loop .i) (test .loop-test .taken) in
-    omega (arith, c .words-taken .ensures, start .good, loop .loop .inv .6 .enough, here)
+    omega (arith, c .words-taken .ensures, start .good, loop .loop .inv .5 .enough, here)
 
 add-i : tie.Need-add-i Inv-loop μ-loop
 add-i c =
@@ -134,13 +134,12 @@ loop-again c =
     let inv = loop .loop .inv in
     let kept = made .make-call .kept in
     let call = rw (lent-part (loop .loop .at) _) at (made .make-call .ensures) in
-    let on = one-on _ _ _ _ _ _ _ _ _ _ (inv .6) (test .loop-test .taken) _ call in (
+    let on = one-on _ _ _ _ _ _ _ _ _ _ (inv .5) (test .loop-test .taken) _ call in (
       kept .1 .1 .1 .0 ∙ inv .0,
       kept .1 .1 .1 .1 .0 ∙ inv .1,
       kept .1 .1 .1 .1 .1 .0 ∙ inv .2,
-      length-set (loop .loop .codes) (loop .loop .i) (c .before .number2 .result) ∙ inv .3,
-      length-set (loop .loop .counts) (loop .loop .i) (made .make-call .result .count) ∙ inv .4,
-      omega (arith, test .loop-test .taken),
+      simp length-set (inv .3),
+      simp length-set (inv .4),
       rw (c .words-taken .ensures, c .before .number2 .ensures) on,
     )
 
@@ -165,7 +164,7 @@ returns-2 c =
     let inv = loop .loop .inv in
     let test = loop .before in
     let judged = test .before .before in
-    let ended = at-end _ _ _ _ _ _ _ _ _ _ (inv .6) (inv .5) (c .loop-test .left) in
+    let ended = at-end _ _ _ _ _ _ _ _ _ _ (inv .5) (c .loop-test .left) in
     let p = when-done _ _ _ _ _ _ (judged .judge .ensures) (sym (test .before .number .ensures) ∙ test .if1 .left) _ ended in
     (p, as-plain _ _ _ _ _ _ (typed (judged .before)) p)
 

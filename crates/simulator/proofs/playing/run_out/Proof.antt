@@ -12,10 +12,10 @@ use Rattle.simulator.proofs.playing.run_out.Statement.{statement}
 use Rattle.simulator.proofs.playing.run_out.Tie as tie
 
 abbrev Inv-loop : tie.InvT-loop
-Inv-loop list words rest₀ i₀ rest i = rest + allTaken list ≡ words + allTaken (drop i list)
+Inv-loop list words rest₀ passed₀ rest passed = rest + allTaken list ≡ words + allTaken (drop passed list)
 
 abbrev μ-loop : tie.MeasureT-loop
-μ-loop list words rest₀ i₀ rest i = length list - i
+μ-loop list words rest₀ passed₀ rest passed = length list - passed
 
 loop-holds : tie.Need-loop-holds Inv-loop μ-loop
 loop-holds c = search needs
@@ -36,10 +36,10 @@ returns c =
     let loop = test .before in
     let a = loop .before .before .args in
     let list = a .list .now in
-    sym (lt-ltb (a .words) (allTaken list) (omega (arith, taken .words-taken .ensures, loop .loop .inv, taken-on list (loop .loop .i) (test .loop-test .taken))))
+    sym (lt-ltb (a .words) (allTaken list) (omega (arith, taken .words-taken .ensures, loop .loop .inv, taken-on list (loop .loop .passed) (test .loop-test .taken))))
 
-add-i : tie.Need-add-i Inv-loop μ-loop
-add-i c = search needs
+add-passed : tie.Need-add-passed Inv-loop μ-loop
+add-passed c = search needs
 
 loop-less : tie.Need-loop-less Inv-loop μ-loop
 loop-less c = search needs
@@ -50,14 +50,14 @@ loop-again c =
     let test = taken .before .before in
     let loop = test .before in
     let list = loop .before .before .args .list .now in
-    omega (arith, taken .words-taken .ensures, loop .loop .inv, taken-on list (loop .loop .i) (test .loop-test .taken))
+    omega (arith, taken .words-taken .ensures, loop .loop .inv, taken-on list (loop .loop .passed) (test .loop-test .taken))
 
 returns-2 : tie.Need-returns-2 Inv-loop μ-loop
 returns-2 c =
     let loop = c .before in
     let a = loop .before .before .args in
     let list = a .list .now in
-    sym (le-ltb (a .words) (allTaken list) (omega (arith, loop .loop .inv, taken-end list (loop .loop .i) (c .loop-test .left))))
+    sym (le-ltb (a .words) (allTaken list) (omega (arith, loop .loop .inv, taken-end list (loop .loop .passed) (c .loop-test .left))))
 
 pub run-out-spec : {M : Type 1} → statement M
 run-out-spec =
@@ -70,7 +70,7 @@ run-out-spec =
     shared-slice-read-words-taken
     words-taken-requires
     returns
-    add-i
+    add-passed
     loop-less
     loop-again
     returns-2)
