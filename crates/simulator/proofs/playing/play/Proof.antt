@@ -1,7 +1,7 @@
 -- `simulator::playing::play` meets its contract: both promises. The loop's invariant: what is left of the list is the list, with the
 -- answers written up to the call. The measure is the calls left. Assumes nothing.
 use borrow.Author.Needs.{needs}
-use Prim.Native.Nat.{_-_}
+use Prim.Native.Nat.{_-_, _<_}
 use mathlib.Core.Path.{_≡_, refl, sym, _∙_}
 use native.Mathlib.Omega.{arith}
 use lib.ListN.{length, length-set}
@@ -24,7 +24,7 @@ abbrev μ-loop : tie.MeasureT-loop
     length list - i
 
 -- what the types of the parameters say
-typed : (c : tie.After-seed-is-short Inv-loop μ-loop) → Typed (withMemory (c .before .before .before .before .before .before .before .before .args .machine) (c .before .before .before .before .before .before .before .before .args .bytes .now) (c .before .before .before .before .before .before .before .before .args .tags .now))
+typed : (c : tie.After-seed-is-short Inv-loop μ-loop) → let a = c .before .before .before .before .before .before .before .before .args in Typed (withMemory (a .machine) (a .bytes .now) (a .tags .now))
 typed c =
     record {
       seed = c .seed-is-short .ensures;
@@ -33,8 +33,15 @@ typed c =
     }
 
 -- the list was not refused
-lent : (c : tie.Else1 Inv-loop μ-loop) → Lent (c .before .before .before .before .before .before .before .before .before .before .before .args .list .now) (length (c .before .before .before .before .before .before .before .before .before .before .before .args .words .now)) (length (c .before .before .before .before .before .before .before .before .before .before .before .args .codes .now)) (length (c .before .before .before .before .before .before .before .before .before .before .before .args .counts .now))
+lent : (c : tie.Else1 Inv-loop μ-loop) → let a = c .before .before .before .before .before .before .before .before .before .before .before .args in Lent (a .list .now) (length (a .words .now)) (length (a .codes .now)) (length (a .counts .now))
 lent c = not-refused _ _ _ _ (sym (c .before .before .judge .ensures) ∙ is-done _ (sym (c .before .number .ensures) ∙ c .if1 .left))
+
+-- so there is room for the answer of the call at i
+room : (c : tie.In-loop Inv-loop μ-loop) → let here = c .before .loop in (here .i < length (here .codes)) × (here .i < length (here .counts))
+room c =
+    let loop = c .before in
+    let lends = lent (loop .before) in
+    (omega (arith, lends .codes, loop .loop .inv .3, c .loop-test .taken), omega (arith, lends .counts, loop .loop .inv .4, c .loop-test .taken))
 
 seed-is-short-requires : tie.Need-seed-is-short-requires Inv-loop μ-loop
 seed-is-short-requires c κs = search needs
@@ -82,30 +89,16 @@ number-requires-2 : tie.Need-number-requires-2 Inv-loop μ-loop
 number-requires-2 c κs = search needs
 
 mul-codes : tie.Need-mul-codes Inv-loop μ-loop
-mul-codes c =
-    let test = c .before .before .before .before .before .before .before .before .before .before .before .before .before .before in
-    let loop = test .before in
-    let start = loop .before .before .before .before .before .before .before .before .before .before .before .before in
-    omega (arith, start .good, lent (loop .before) .codes, loop .loop .inv .3, test .loop-test .taken)
+mul-codes c = omega (arith, mul-number (c .before .before .before .before .before .before .before .before .before .before .before .before .before .before))
 
 slice-write-codes : tie.Need-slice-write-codes Inv-loop μ-loop
-slice-write-codes c =
-    let test = c .before .before .before .before .before .before .before .before .before .before .before .before .before .before in
-    let loop = test .before in
-    omega (arith, lent (loop .before) .codes, loop .loop .inv .3, test .loop-test .taken)
+slice-write-codes c = room (c .before .before .before .before .before .before .before .before .before .before .before .before .before .before) .0
 
 mul-counts : tie.Need-mul-counts Inv-loop μ-loop
-mul-counts c =
-    let test = c .before .before .before .before .before .before .before .before .before .before .before .before .before .before in
-    let loop = test .before in
-    let start = loop .before .before .before .before .before .before .before .before .before .before .before .before in
-    omega (arith, start .good, lent (loop .before) .counts, loop .loop .inv .4, test .loop-test .taken)
+mul-counts c = omega (arith, mul-number (c .before .before .before .before .before .before .before .before .before .before .before .before .before .before))
 
 slice-write-counts : tie.Need-slice-write-counts Inv-loop μ-loop
-slice-write-counts c =
-    let test = c .before .before .before .before .before .before .before .before .before .before .before .before .before .before in
-    let loop = test .before in
-    omega (arith, lent (loop .before) .counts, loop .loop .inv .4, test .loop-test .taken)
+slice-write-counts c = room (c .before .before .before .before .before .before .before .before .before .before .before .before .before .before) .1
 
 words-taken-requires : tie.Need-words-taken-requires Inv-loop μ-loop
 words-taken-requires c κs = search needs
@@ -119,9 +112,7 @@ add-at c =
     omega (arith, c .words-taken .ensures, start .good, loop .loop .inv .5 .enough, here)
 
 add-i : tie.Need-add-i Inv-loop μ-loop
-add-i c =
-    let test = c .before .before .before .before .before .before .before .before .before .before .before .before .before .before .before in
-    omega (arith, test .before .before .before .before .before .before .before .before .before .before .before .before .before .good, test .loop-test .taken)
+add-i c = omega (arith, mul-number (c .before .before .before .before .before .before .before .before .before .before .before .before .before .before .before))
 
 loop-less : tie.Need-loop-less Inv-loop μ-loop
 loop-less c = search needs
