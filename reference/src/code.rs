@@ -1,4 +1,5 @@
-//! The answers of document 01, "Codes and their order".
+//! The answers of document 01, "Codes and their order", and the refusals of a
+//! list of calls (the manual, "A list of calls").
 
 #[derive(Clone, Copy, Debug, PartialEq, Eq, PartialOrd, Ord)]
 pub enum Code {
@@ -11,4 +12,6 @@ pub enum Code {
     NoHistory = 6,
     BadRecord = 7,
     Field = 8,
+    NoRoom = 10,
+    NoWords = 15,
 }

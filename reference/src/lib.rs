@@ -9,6 +9,8 @@ pub mod draw;
 pub mod encoder;
 mod facts;
 pub mod generate;
+pub mod list;
+mod list_facts;
 pub mod machine;
 pub mod minima;
 pub mod plain;

@@ -2,11 +2,14 @@
 
 use std::fmt;
 use std::io::{self, Write};
+use std::mem;
 
 use crate::code::Code;
 use crate::draw::draw;
 use crate::encoder::{decode, encode};
 use crate::facts;
+use crate::list::{Call, Lent, List};
+use crate::list_facts;
 use crate::machine::SP;
 use crate::plain::Plain;
 use crate::reach::checksum;
@@ -38,12 +41,13 @@ pub fn play(script: &[u8]) -> Played {
 }
 
 /// With more data than this the state is not held to the plain machine's
-/// after each call, but at the end of each list of calls.
+/// after each call, but when the machine is set next.
 const SMALL_DATA: usize = 4096;
 
-/// Plays line by line. From a call on a well-formed setup with held = 0 on,
-/// the plain machine is played beside, up to the next line that sets anything
-/// of the machine. Where the two disagree, the reference itself is wrong.
+/// Plays line by line; calls that are played as a list are put by until it
+/// ends. From a call on a well-formed setup with held = 0 on, the plain machine
+/// is played beside, up to the next line that sets anything of the machine.
+/// Where the two disagree, the reference itself is wrong.
 pub struct Player {
     recorded: Recorded,
     plain: Option<Plain>,
@@ -52,6 +56,10 @@ pub struct Player {
     kept_data: Vec<u8>,
     kept_history: Vec<u64>,
     state_after_call: bool,
+    as_lists: bool,
+    lent: Lent,
+    /// Not played yet.
+    list: List,
     output: Vec<u8>,
     tally: Tally,
 }
@@ -66,6 +74,9 @@ impl Default for Player {
             kept_data: vec![0; MOST_DATA],
             kept_history: vec![0; MOST_HISTORY],
             state_after_call: true,
+            as_lists: false,
+            lent: Lent::MOST,
+            list: List::default(),
             output: Vec::new(),
             tally: Tally::default(),
         }
@@ -86,7 +97,8 @@ impl Player {
     }
 
     pub fn played(mut self) -> Played {
-        self.end_list();
+        self.play_list("the end of the script");
+        self.end_beside();
         Played {
             output: self.output,
             tally: self.tally,
@@ -95,11 +107,62 @@ impl Player {
 
     pub fn play(&mut self, line: Line) {
         match line {
-            Line::ListedWord(index, word) => self.listed[index] = word,
-            Line::Word(word) => self.step(word),
-            Line::Run(count) => self.run(count),
-            Line::Back => self.step_back(),
+            Line::Word(word) => self.call(Call::Step(word)),
+            Line::Run(count) => self.call(Call::Run(self.listed[..count].to_vec())),
+            Line::Back => self.call(Call::Back),
+            Line::ListedWord(index, word) => {
+                self.list.pass(line.name());
+                self.listed[index] = word;
+            }
+            Line::Nothing => self.list.pass(line.name()),
+            other => {
+                self.play_list(other.name());
+                self.play_alone(other);
+            }
+        }
+    }
+
+    /// A call by itself, or one more of a list.
+    fn call(&mut self, call: Call) {
+        if self.as_lists {
+            if let Some(full) = self.list.full_for(&call) {
+                self.play_list(list_facts::name(full));
+            }
+            self.list.add(call);
+        } else {
+            self.carry_out(&call);
+            self.after_calls();
+        }
+    }
+
+    /// Plays the list that has begun, if one has.
+    fn play_list(&mut self, ended_by: &'static str) {
+        let list = mem::take(&mut self.list);
+        if list.calls().is_empty() {
+            return;
+        }
+        let code = list.code(&self.lent);
+        let calls = match code {
+            Code::Done => list.calls(),
+            _ => &[],
+        };
+        list_facts::count(&mut self.tally, &list, &self.lent, ended_by);
+        list_facts::count_begin(&mut self.tally, &self.recorded, code);
+        self.write(format_args!(
+            "played={:02x} {:08x}",
+            code as u8,
+            calls.len()
+        ));
+        calls.iter().for_each(|call| self.carry_out(call));
+        self.after_calls();
+    }
+
+    /// A line that is no call and does not stand in a list.
+    fn play_alone(&mut self, line: Line) {
+        match line {
             Line::Dump(wanted) => self.state_after_call = wanted,
+            Line::Play(wanted) => self.as_lists = wanted,
+            Line::Lend(lent) => self.lent = lent,
             Line::Show => self.show(),
             Line::Decode(word) => self.decode(word),
             Line::Encode(form, values) => self.encode(form, &values),
@@ -113,9 +176,8 @@ impl Player {
                 self.write(format_args!("drawn={bits:x} {seed:04x}"));
             }
             Line::Reach(pointer) => self.reach(pointer),
-            Line::Nothing => {}
             setting => {
-                self.end_list();
+                self.end_beside();
                 self.set(setting);
             }
         }
@@ -152,8 +214,20 @@ impl Player {
         }
     }
 
+    /// One call, and the line that it writes.
+    fn carry_out(&mut self, call: &Call) {
+        self.begin_beside();
+        match call {
+            Call::Step(word) => self.step(*word),
+            Call::Run(words) => self.run(words),
+            Call::Back => self.step_back(),
+        }
+        if self.recorded.machine.data.len() <= SMALL_DATA {
+            self.hold_to_plain();
+        }
+    }
+
     fn step(&mut self, word: u32) {
-        self.begin_list();
         facts::count_step(&mut self.tally, &self.recorded);
         let code = self.recorded.step(word);
         if let Some(plain) = &mut self.plain {
@@ -161,12 +235,9 @@ impl Player {
         }
         self.tally.count_word(form_of(word), code);
         self.write(format_args!("code={}", code as u8));
-        self.after_call();
     }
 
-    fn run(&mut self, count: usize) {
-        self.begin_list();
-        let words = &self.listed[..count];
+    fn run(&mut self, words: &[u32]) {
         facts::count_run_begin(&mut self.tally, &self.recorded);
         let (code, done) = self.recorded.run(words);
         if let Some(plain) = &mut self.plain {
@@ -174,11 +245,9 @@ impl Player {
         }
         facts::count_run(&mut self.tally, words, code, done as usize);
         self.write(format_args!("ran={} {done:08x}", code as u8));
-        self.after_call();
     }
 
     fn step_back(&mut self) {
-        self.begin_list();
         let before = facts::before_step_back(&mut self.tally, &self.recorded);
         let code = self.recorded.step_back();
         if let Some(plain) = &mut self.plain {
@@ -186,10 +255,16 @@ impl Player {
         }
         facts::count_step_back(&mut self.tally, before, code);
         self.write(format_args!("code={}", code as u8));
-        self.after_call();
     }
 
-    fn begin_list(&mut self) {
+    /// The state after a call by itself, or after a list of calls.
+    fn after_calls(&mut self) {
+        if self.state_after_call {
+            self.show();
+        }
+    }
+
+    fn begin_beside(&mut self) {
         let recorded = &self.recorded;
         if self.plain.is_none() && recorded.held == 0 && recorded.well_formed() {
             self.plain = Some(Plain::beside(&recorded.machine, recorded.slots()));
@@ -198,16 +273,7 @@ impl Player {
         self.tally.beside.calls += u64::from(self.plain.is_some());
     }
 
-    fn after_call(&mut self) {
-        if self.recorded.machine.data.len() <= SMALL_DATA {
-            self.hold_to_plain();
-        }
-        if self.state_after_call {
-            self.show();
-        }
-    }
-
-    fn end_list(&mut self) {
+    fn end_beside(&mut self) {
         self.hold_to_plain();
         self.plain = None;
     }
@@ -536,6 +602,301 @@ list=00000002 91804020
         assert_eq!(beside("x=00 0000000000001000\nword=d9201400\n"), (2, 2));
     }
 
+    /// S1's setup with a history of one slot, calls played as lists, and no
+    /// states.
+    const AS_LISTS: &str = "\
+fresh=0000000000001000
+tags=00000004
+data=00000040
+history=00000008
+x=00 0500000000001000
+dump=0
+play=1
+";
+
+    fn as_lists(script: &str) -> String {
+        text(&format!("{AS_LISTS}{script}"))
+    }
+
+    #[test]
+    fn calls_in_a_row_are_one_list_with_one_state() {
+        let state = S1_OUTPUT.strip_prefix("code=0\n").expect("a code");
+        let s1 = S1.replace("word=", "play=1\nword=");
+        assert_eq!(text(&s1), format!("played=00 00000001\ncode=0\n{state}"));
+        assert_eq!(
+            text(&format!("{s1}word=91804020\nrun=00000000\nback\n")),
+            format!("played=00 00000004\ncode=0\ncode=2\nran=0 00000000\ncode=6\n{state}")
+        );
+        assert_eq!(
+            as_lists("word=d9201400\nback\nback\nlist=00000000 d9201400\nrun=00000002\nback\n"),
+            "played=00 00000005\ncode=0\ncode=0\ncode=6\nran=2 00000001\ncode=0\n"
+        );
+    }
+
+    #[test]
+    fn without_calls_no_list_is_played() {
+        assert_eq!(as_lists(""), "");
+        assert_eq!(
+            as_lists("play=0\nplay=1\n\n# remark\nlist=00000000 d9201400\n"),
+            ""
+        );
+        assert_eq!(
+            as_lists("play=0\nback\nplay=1\nplay=0\nback\n"),
+            "code=6\ncode=6\n"
+        );
+    }
+
+    #[test]
+    fn passed_over_lines_and_list_lines_do_not_end_a_list() {
+        for line in ["", "#", "# remark", "list=00000fff ffffffff"] {
+            assert_eq!(
+                as_lists(&format!("back\n{line}\n{line}\nword=91804020\n")),
+                "played=00 00000002\ncode=6\ncode=2\n",
+                "{line}"
+            );
+        }
+    }
+
+    #[test]
+    fn every_other_line_ends_a_list() {
+        for line in [
+            "fresh=0000000000000000",
+            "access=1",
+            "exclude=0000",
+            "nzcv=00",
+            "rgsr=00",
+            "seed=0000",
+            "next=0000000000000000",
+            "held=0000000000000000",
+            "tags=00000004",
+            "data=00000040",
+            "history=00000008",
+            "x=00 0500000000001000",
+            "tag=00010000 00",
+            "byte=00000000 00",
+            "log=00000000 0000000000000000",
+            "dump=0",
+            "play=1",
+            "lend=00000001 00000001 00000000",
+        ] {
+            assert_eq!(
+                as_lists(&format!("back\n{line}\nback\n")),
+                "played=00 00000001\ncode=6\n".repeat(2),
+                "{line}"
+            );
+        }
+        for (line, answer) in [
+            ("decode=91804020", "decoded=2\n"),
+            ("choose=2 1 0008", "chosen=4\n"),
+            ("draw=0001", "drawn=1 1000\n"),
+            (
+                "irg=0000000000000020 0000000000000000 0000000000000000",
+                "encoded=8 00000000\n",
+            ),
+            (
+                "reach=0000000000000000",
+                "reached=00000000 00000000 0000000000000000\n",
+            ),
+        ] {
+            assert_eq!(
+                as_lists(&format!("back\n{line}\nback\n")),
+                format!("played=00 00000001\ncode=6\n{answer}played=00 00000001\ncode=6\n")
+            );
+        }
+    }
+
+    #[test]
+    fn a_list_is_played_before_the_line_that_ends_it() {
+        let state = text(&AS_LISTS.replace("dump=0\nplay=1", "show"));
+        let list = "played=00 00000001\ncode=6\n";
+        assert_eq!(as_lists("back\nshow\n"), format!("{list}{state}"));
+        assert_eq!(
+            as_lists("dump=1\nback\ndump=0\n"),
+            format!("{list}{state}"),
+            "a state while a dump=1 holds"
+        );
+        assert_eq!(as_lists("back\ndump=1\n"), list);
+        assert_eq!(
+            as_lists("dump=1\nback\nshow\n"),
+            format!("{list}{state}{state}")
+        );
+        assert_eq!(
+            as_lists("dump=1\nback\nx=00 0000000000000000\n"),
+            format!("{list}{state}")
+        );
+        assert_eq!(
+            as_lists("dump=1\nback\nfresh=0000000000000000\n"),
+            format!("{list}{state}")
+        );
+        assert_eq!(
+            as_lists("back\nlend=00000000 00000000 00000000\nback\n"),
+            format!("{list}played=0a 00000000\n")
+        );
+        assert_eq!(as_lists("back\nplay=0\nback\n"), format!("{list}code=6\n"));
+    }
+
+    /// ADDG X0, X0, #16, #1 is done; the other word is undefined.
+    #[test]
+    fn a_run_of_a_list_has_the_words_of_its_place() {
+        assert_eq!(
+            as_lists("list=00000000 91810400\nrun=00000001\nlist=00000000 91804020\nrun=00000001\nlist=00000000 91810400\n"),
+            "played=00 00000002\nran=0 00000001\nran=2 00000000\n"
+        );
+        assert_eq!(
+            as_lists(
+                "list=00000000 91810400\nrun=00000001\nfresh=0000000000000000\nrun=00000001\n"
+            ),
+            "played=00 00000001\nran=0 00000001\nplayed=00 00000001\nran=2 00000000\n"
+        );
+    }
+
+    /// Three calls, which take three words: S1's step, a run of an undefined
+    /// word and another, and a step back.
+    #[test]
+    fn a_list_is_refused_where_too_little_is_lent() {
+        let calls = "word=d9201400\nlist=00000000 91804020\nrun=00000002\nback\n";
+        let played = "played=00 00000003\ncode=0\nran=2 00000000\ncode=0\n";
+        let (no_room, no_words) = ("played=0a 00000000\n", "played=0f 00000000\n");
+        for (lent, answer) in [
+            ("00001000 00001000 00004000", played),
+            ("ffffffff ffffffff ffffffff", played),
+            ("00000003 00000003 00000003", played),
+            ("00000002 00000003 00000003", no_room),
+            ("00000003 00000002 00000003", no_room),
+            ("00000003 00000003 00000002", no_words),
+            ("00000002 00000003 00000002", no_room),
+            ("00000003 00000002 00000000", no_room),
+            ("00000000 00001000 00004000", no_room),
+            ("00001000 00000000 00004000", no_room),
+            ("00001000 00001000 00000000", no_words),
+            ("00000000 00000000 00000000", no_room),
+        ] {
+            assert_eq!(as_lists(&format!("lend={lent}\n{calls}")), answer, "{lent}");
+        }
+        assert_eq!(
+            as_lists("lend=00000002 00000002 00000000\nback\nrun=00000000\n"),
+            "played=00 00000002\ncode=6\nran=0 00000000\n"
+        );
+        assert_eq!(
+            as_lists(&format!("lend=00000000 00000000 00000000\nplay=0\n{calls}")),
+            "code=0\nran=2 00000000\ncode=0\n",
+            "a call by itself is lent nothing"
+        );
+    }
+
+    #[test]
+    fn a_refused_list_does_nothing() {
+        let state = text(&AS_LISTS.replace("dump=0\nplay=1", "show"));
+        for (lent, code) in [
+            ("00000000 00000001 00000001", "0a"),
+            ("00000001 00000001 00000000", "0f"),
+        ] {
+            assert_eq!(
+                as_lists(&format!("lend={lent}\ndump=1\nword=d9201400\nshow\n")),
+                format!("played={code} 00000000\n{state}{state}")
+            );
+            let begun = play(format!("{AS_LISTS}lend={lent}\nword=d9201400\n").as_bytes());
+            assert_eq!(begun.tally.beside.calls, 0);
+        }
+    }
+
+    #[test]
+    fn a_fresh_machine_leaves_what_is_lent_and_the_way_of_playing() {
+        assert_eq!(
+            as_lists("lend=00000001 00000001 00000000\nfresh=0000000000001000\nback\nshow\nback\nback\ndecode=00000000\nword=91810400\n"),
+            format!(
+                "played=00 00000001\ncode=6\n{}played=0a 00000000\ndecoded=2\nplayed=0f 00000000\n",
+                text("fresh=0000000000001000\nshow\n")
+            )
+        );
+    }
+
+    #[test]
+    fn a_malformed_setup_refuses_the_calls_and_not_the_list() {
+        assert_eq!(
+            as_lists("nzcv=10\nword=d9201400\nrun=00000000\nrun=00000001\nback\n"),
+            "played=00 00000004\ncode=1\nran=1 00000000\nran=1 00000000\ncode=1\n"
+        );
+    }
+
+    #[test]
+    fn a_list_has_at_most_4096_calls() {
+        let answer = |calls: usize| format!("played=00 {calls:08x}\n{}", "code=6\n".repeat(calls));
+        let played = |calls: usize| as_lists(&"back\n".repeat(calls));
+        assert_eq!(played(0xFFF), answer(0xFFF));
+        assert_eq!(played(0x1000), answer(0x1000));
+        assert_eq!(played(0x1001), answer(0x1000) + &answer(1));
+        assert_eq!(played(0x2001), answer(0x1000).repeat(2) + &answer(1));
+        // Too few places for the first list are enough for the second.
+        assert_eq!(
+            as_lists(&format!(
+                "lend=00000fff 00001000 00004000\n{}",
+                "back\n".repeat(0x1001)
+            )),
+            "played=0a 00000000\n".to_string() + &answer(1)
+        );
+    }
+
+    #[test]
+    fn the_calls_of_a_list_take_at_most_16384_words() {
+        let run = |count: usize| format!("run={count:08x}\n");
+        let longest = run(0x1000).repeat(4);
+        // The words are all undefined.
+        let ran = |calls: usize| {
+            format!(
+                "played=00 {calls:08x}\n{}",
+                "ran=2 00000000\n".repeat(calls)
+            )
+        };
+        assert_eq!(as_lists(&longest), ran(4));
+        assert_eq!(as_lists(&(longest.clone() + &run(1))), ran(4) + &ran(1));
+        assert_eq!(
+            as_lists(&format!(
+                "{longest}back\nrun=00000000\nword=00000000\nback\n"
+            )),
+            format!(
+                "{}code=6\nran=0 00000000\nplayed=00 00000002\ncode=2\ncode=6\n",
+                ran(4).replace("00000004", "00000006")
+            )
+        );
+        let almost = run(0x1000).repeat(3) + &run(0xFFF);
+        assert_eq!(
+            as_lists(&format!("{almost}word=00000000\nword=00000000\n")),
+            format!(
+                "{}code=2\nplayed=00 00000001\ncode=2\n",
+                ran(4).replace("00000004", "00000005")
+            )
+        );
+        assert_eq!(as_lists(&(almost.clone() + &run(2))), ran(4) + &ran(1));
+        assert_eq!(
+            as_lists(&format!(
+                "lend=00001000 00001000 00003fff\n{longest}{}",
+                run(1)
+            )),
+            "played=0f 00000000\n".to_string() + &ran(1)
+        );
+        assert_eq!(
+            as_lists(&format!("lend=00001000 00001000 00003fff\n{almost}")),
+            ran(4)
+        );
+    }
+
+    #[test]
+    fn the_plain_machine_is_played_beside_lists() {
+        let beside = |script: &str| {
+            let tally = play(format!("{AS_LISTS}{script}").as_bytes()).tally;
+            (tally.beside.lists, tally.beside.calls)
+        };
+        assert_eq!(beside("word=d9201400\nback\nrun=00000001\n"), (1, 3));
+        assert_eq!(beside("word=d9201400\nshow\nback\n"), (1, 2));
+        assert_eq!(
+            beside("word=d9201400\nx=00 0000000000001000\nback\nback\n"),
+            (2, 2),
+            "from held = 0 on"
+        );
+        assert_eq!(beside("nzcv=10\nword=d9201400\nback\n"), (0, 0));
+    }
+
     #[test]
     fn other_calls() {
         assert_eq!(text("decode=91804020\n"), "decoded=2\n");
@@ -585,6 +946,8 @@ byte=00000020 04
     fn a_bad_script_is_not_played() {
         assert_eq!(text("show\nshow \n"), "bad=00000002\n");
         assert_eq!(text("show\nshow"), "bad=00000002\n");
+        assert_eq!(text("play=1\nback\nplay=2\n"), "bad=00000003\n");
+        assert_eq!(text("played=00 00000001\n"), "bad=00000001\n");
         assert_eq!(text(&"\n".repeat(4_194_304)), "");
         assert_eq!(text(&"\n".repeat(4_194_305)), "bad=00000000\n");
     }

@@ -2,6 +2,7 @@
 //! says, and which line is the first wrong one.
 
 use crate::encoder::fields;
+use crate::list::Lent;
 use crate::words::{Form, FORMS};
 
 pub const MOST_BYTES: usize = 4_194_304;
@@ -33,6 +34,8 @@ pub enum Line {
     Run(usize),
     Back,
     Dump(bool),
+    Play(bool),
+    Lend(Lent),
     Show,
     Decode(u32),
     Encode(&'static Form, Vec<u64>),
@@ -41,6 +44,43 @@ pub enum Line {
     Reach(u64),
     /// Empty, or a remark.
     Nothing,
+}
+
+impl Line {
+    /// What such a line is called.
+    pub fn name(&self) -> &'static str {
+        match self {
+            Line::Fresh(_) => "fresh",
+            Line::Access(_) => "access",
+            Line::Exclude(_) => "exclude",
+            Line::Nzcv(_) => "nzcv",
+            Line::RgsrTag(_) => "rgsr",
+            Line::Seed(_) => "seed",
+            Line::Next(_) => "next",
+            Line::Held(_) => "held",
+            Line::Tags(_) => "tags",
+            Line::Data(_) => "data",
+            Line::History(_) => "history",
+            Line::Register(..) => "x",
+            Line::TagByte(..) => "tag",
+            Line::DataByte(..) => "byte",
+            Line::HistoryWord(..) => "log",
+            Line::ListedWord(..) => "list",
+            Line::Word(_) => "word",
+            Line::Run(_) => "run",
+            Line::Back => "back",
+            Line::Dump(_) => "dump",
+            Line::Play(_) => "play",
+            Line::Lend(_) => "lend",
+            Line::Show => "show",
+            Line::Decode(_) => "decode",
+            Line::Encode(..) => "a form",
+            Line::Choose(..) => "choose",
+            Line::Draw(_) => "draw",
+            Line::Reach(_) => "reach",
+            Line::Nothing => "passed over",
+        }
+    }
 }
 
 /// All lines of a script, or the number of its first wrong line from 1; the
@@ -120,6 +160,11 @@ fn call(key: &[u8], values: &[u8]) -> Option<Line> {
         b"word" => Line::Word(number(values, 8)? as u32),
         b"run" => Line::Run(below(number(values, 8)?, MOST_LISTED + 1)?),
         b"dump" => Line::Dump(yes_or_no(values)?),
+        b"play" => Line::Play(yes_or_no(values)?),
+        b"lend" => {
+            let [codes, counts, words] = numbers(values, [8, 8, 8])?;
+            Line::Lend(Lent::at_most(codes, counts, words))
+        }
         b"decode" => Line::Decode(number(values, 8)? as u32),
         b"choose" => {
             let [start, offset, mask] = numbers(values, [1, 1, 4])?;
@@ -192,7 +237,7 @@ pub(crate) fn below(number: u64, limit: usize) -> Option<usize> {
 mod tests {
     use super::*;
 
-    const RIGHT: [&str; 40] = [
+    const RIGHT: [&str; 45] = [
         "",
         "#",
         "#show \r\0",
@@ -221,6 +266,11 @@ mod tests {
         "back",
         "dump=0",
         "dump=1",
+        "play=0",
+        "play=1",
+        "lend=00001000 00001000 00004000",
+        "lend=00000000 00000000 00000000",
+        "lend=ffffffff ffffffff ffffffff",
         "show",
         "decode=00000000",
         "choose=f 0 ffff",
@@ -286,6 +336,29 @@ mod tests {
             "access=f",
             "access=00",
             "dump=2",
+            "play=2",
+            "play=f",
+            "play=00",
+            "play=-",
+            "play=",
+            "play",
+            "play 1",
+            "Play=1",
+            "plays=1",
+            "played=00 00000001",
+            "lend",
+            "lend=",
+            "lend=00000001",
+            "lend=00000001 00000001",
+            "lend=00000001 00000001 00000001 00000001",
+            "lend=0001 00000001 00000001",
+            "lend=00000001 0001 00000001",
+            "lend=00000001 00000001 0001",
+            "lend=000000001 00000001 00000001",
+            "lend=00000001 00000001 0000000000000001",
+            "lend=00000001  00000001 00000001",
+            "lend=00000001 00000001 0000000A",
+            "lent=00000001 00000001 00000001",
             "tags=00010011",
             "tags=ffffffff",
             "data=00100101",
@@ -332,6 +405,31 @@ mod tests {
         ] {
             assert_eq!(line(text.as_bytes()), None, "{text:?}");
         }
+    }
+
+    #[test]
+    fn no_more_is_lent_than_a_list_may_have() {
+        let lent = |text: &str| line(text.as_bytes());
+        let most = Some(Line::Lend(Lent::MOST));
+        assert_eq!(lent("lend=00001000 00001000 00004000"), most);
+        assert_eq!(lent("lend=00001001 00001001 00004001"), most);
+        assert_eq!(lent("lend=ffffffff ffffffff ffffffff"), most);
+        let fewer = |codes, counts, words| {
+            Some(Line::Lend(Lent {
+                codes,
+                counts,
+                words,
+            }))
+        };
+        assert_eq!(
+            lent("lend=00000fff 00004000 00001001"),
+            fewer(0xFFF, 0x1000, 0x1001)
+        );
+        assert_eq!(
+            lent("lend=80000000 00000001 00003fff"),
+            fewer(0x1000, 1, 0x3FFF)
+        );
+        assert_eq!(lent("lend=00000000 00000000 00000000"), fewer(0, 0, 0));
     }
 
     #[test]

@@ -17,6 +17,35 @@ pub struct Beside {
     pub states: u64,
 }
 
+/// Lists of calls that were played as one, and the calls of those that were
+/// not refused.
+#[derive(Clone, Debug, Default, PartialEq)]
+pub struct Lists {
+    codes: Codes,
+    pub calls: u64,
+    pub longest: u64,
+}
+
+impl Lists {
+    pub fn count(&mut self, code: Code, calls: u64) {
+        *self.codes.entry(code).or_default() += 1;
+        if code == Code::Done {
+            self.calls += calls;
+            self.longest = self.longest.max(calls);
+        }
+    }
+
+    pub fn ended(&self, code: Code) -> u64 {
+        self.codes.get(&code).copied().unwrap_or(0)
+    }
+
+    fn add(&mut self, other: &Lists) {
+        add_codes(&mut self.codes, &other.codes);
+        self.calls += other.calls;
+        self.longest = self.longest.max(other.longest);
+    }
+}
+
 #[derive(Clone, Debug, Default, PartialEq)]
 pub struct Tally {
     /// By the name of the form; undefined words have none.
@@ -30,6 +59,10 @@ pub struct Tally {
     pub reaches: u64,
     pub states: u64,
     pub beside: Beside,
+    pub lists: Lists,
+    /// Lines that were the same whether calls were played one by one or as
+    /// lists.
+    pub lines_both_ways: u64,
     /// Cases by the name of their group and by their own.
     cases: BTreeMap<&'static str, BTreeMap<String, u64>>,
 }
@@ -100,6 +133,8 @@ impl Tally {
         self.beside.lists += other.beside.lists;
         self.beside.calls += other.beside.calls;
         self.beside.states += other.beside.states;
+        self.lists.add(&other.lists);
+        self.lines_both_ways += other.lines_both_ways;
         for (group, cases) in &other.cases {
             let sum = self.cases.entry(group).or_default();
             for (name, count) in cases {
@@ -172,6 +207,10 @@ impl fmt::Display for Tally {
             counted("lists beside the plain machine", self.beside.lists),
             counted("calls in them", self.beside.calls),
             counted("states of them compared", self.beside.states),
+            listed("lists played as one", self.lists.codes.clone()),
+            counted("calls in those", self.lists.calls),
+            counted("calls in the longest", self.lists.longest),
+            counted("lines alike both ways", self.lines_both_ways),
         ];
         let parts: Vec<String> = parts.into_iter().flatten().collect();
         out.write_str(&parts.join(", "))
@@ -198,6 +237,25 @@ mod tests {
             .by_form()
             .starts_with("ADDG         Done 2, Setup 1\nSUBG         \n"));
         assert!(sum.by_form().ends_with("no form      Undefined 2"));
+    }
+
+    #[test]
+    fn lists_add_up() {
+        let mut one = Tally::default();
+        one.lists.count(Code::Done, 3);
+        one.lists.count(Code::Done, 5);
+        one.lists.count(Code::NoRoom, 9);
+        one.lines_both_ways = 7;
+        let mut sum = one.clone();
+        sum.lists.count(Code::NoWords, 9);
+        sum.lists.count(Code::Done, 1);
+        sum.add(&one);
+        assert_eq!(sum.lists.ended(Code::NoRoom), 2);
+        assert_eq!(sum.lists.ended(Code::NoWords), 1);
+        assert_eq!(
+            sum.to_string(),
+            "8 lists played as one (Done 5, NoRoom 2, NoWords 1), 17 calls in those, 5 calls in the longest, 14 lines alike both ways"
+        );
     }
 
     #[test]
