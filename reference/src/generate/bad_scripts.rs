@@ -4,7 +4,7 @@ use super::random::Random;
 use crate::script::MOST_BYTES;
 
 /// A right line of every kind, with letters among its digits where it can.
-const RIGHT: [&str; 38] = [
+const RIGHT: [&str; 40] = [
     "fresh=00000000000abcd0",
     "access=1",
     "exclude=00ef",
@@ -25,6 +25,8 @@ const RIGHT: [&str; 38] = [
     "run=0000000a",
     "back",
     "dump=1",
+    "play=1",
+    "lend=0000000a 0000000b 0000abcd",
     "show",
     "decode=9adf1020",
     "choose=a b cdef",
@@ -46,7 +48,7 @@ const RIGHT: [&str; 38] = [
 ];
 
 /// Lines at their limits, right or wrong by one.
-const AT_LIMITS: [&str; 74] = [
+const AT_LIMITS: [&str; 101] = [
     "access=2",
     "access=9",
     "access=a",
@@ -55,6 +57,33 @@ const AT_LIMITS: [&str; 74] = [
     "dump=2",
     "dump=f",
     "dump=-",
+    "play=0",
+    "play=2",
+    "play=9",
+    "play=a",
+    "play=f",
+    "play=01",
+    "play=10",
+    "play=-",
+    "play=1 1",
+    "lend=00000000 00000000 00000000",
+    "lend=00001000 00001000 00004000",
+    "lend=00001001 00001001 00004001",
+    "lend=80000000 80000000 80000000",
+    "lend=ffffffff ffffffff ffffffff",
+    "lend=00001000",
+    "lend=00001000 00001000",
+    "lend=00001000 00001000 ",
+    "lend=00001000 00001000 00004000 00000000",
+    "lend=1000 00001000 00004000",
+    "lend=00001000 1000 00004000",
+    "lend=00001000 00001000 4000",
+    "lend=000001000 00001000 00004000",
+    "lend=00001000 000001000 00004000",
+    "lend=00001000 00001000 000004000",
+    "lend=0000000000001000 0000000000001000 0000000000004000",
+    "lend=00001000,00001000,00004000",
+    "lend=00001000  00001000 00004000",
     "tags=00010010",
     "tags=00010011",
     "tags=00020000",
@@ -124,7 +153,7 @@ const AT_LIMITS: [&str; 74] = [
 ];
 
 /// Lines of no kind.
-const OF_NO_KIND: [&str; 46] = [
+const OF_NO_KIND: [&str; 58] = [
     " ",
     "\r",
     "\0",
@@ -159,6 +188,18 @@ const OF_NO_KIND: [&str; 46] = [
     "reachable=0000000000001000",
     "reached=00000000 00000000 0000000000000000",
     "ran=0 00000000",
+    "play",
+    "play=",
+    "play 1",
+    "Play=1",
+    "plays=1",
+    "playing=1",
+    "played=00 00000001",
+    "played=0a 00000000",
+    "lend",
+    "lend=",
+    "lent=00000001 00000001 00000001",
+    "lends=00000001 00000001 00000001",
     "fresh",
     "fresh=",
     "word",
@@ -265,6 +306,9 @@ fn whole_scripts() -> Vec<Vec<u8>> {
         with_end(&right, b" "),
         with_end(&right, b"\0\n"),
         ended(&["show", "shwo", "show", "shwo"]),
+        ended(&["play=1", "back", "word=d9201400", "play=2"]),
+        ended(&["play=1", "back", "# remark", "run=00001001", "back"]),
+        with_end(&ended(&["play=1", "back"]), b"back"),
         ended(&["show", "shwo", "fresh="]),
         with_end(b"shwo\n", b"show"),
         with_end(&ended(&RIGHT).repeat(20), b"access=2\nshow\n"),
@@ -343,7 +387,7 @@ mod tests {
     #[test]
     fn the_limits_are_tried_on_both_sides() {
         for key in [
-            "history", "log", "list", "run", "tags", "data", "tag", "byte", "reach",
+            "history", "log", "list", "run", "tags", "data", "tag", "byte", "reach", "play", "lend",
         ] {
             let of_key = |text: &&&str| text.split('=').next() == Some(key);
             let tried: Vec<_> = AT_LIMITS.iter().filter(of_key).collect();
