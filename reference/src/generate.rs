@@ -8,6 +8,8 @@ mod codings;
 mod cursors;
 pub mod lists;
 pub(crate) mod operands;
+pub mod pairs;
+mod played;
 pub(crate) mod random;
 mod reach;
 pub mod records;
@@ -20,7 +22,43 @@ pub use author::{Script, WHOLE};
 
 use crate::plan::{Job, Plan};
 use crate::words::FORMS;
+use pairs::Pair;
 use random::Random;
+
+/// The kinds of scripts in which calls are played as lists.
+pub const PLAYED_LISTS: &str = "played lists";
+pub const LONGEST_LISTS: &str = "longest played lists";
+
+/// The kinds of scripts that make calls one by one, and of how many scripts
+/// one is played in both ways: of those whose lists have mostly one call, not
+/// all.
+const OF_CALLS: [(&str, u64); 13] = [
+    ("rows of the paper", 1),
+    ("rules of the setup", 1),
+    ("random walks", 3),
+    ("largest memory", 3),
+    ("near words", 1),
+    ("lists of calls", 1),
+    ("cursors", 1),
+    ("runs", 1),
+    ("longest runs", 1),
+    ("damaged records", 1),
+    ("made-up histories", 1),
+    ("reach", 1),
+    ("kept bytes", 1),
+];
+
+/// The scripts of calls that are played in both ways.
+pub fn pairs(times: u64) -> Vec<Job<Pair>> {
+    let mut jobs = jobs(times);
+    let both_ways = |job: &Job<Script>| {
+        let mut kinds = OF_CALLS.iter();
+        kinds.any(|&(kind, one_in)| kind == job.kind && job.number.is_multiple_of(one_in))
+    };
+    jobs.retain(both_ways);
+    let pair = |job: Job<Script>| job.map(|script| Pair::of(&script));
+    jobs.into_iter().map(pair).collect()
+}
 
 /// All scripts there are, with so many times as many random ones.
 pub fn jobs(times: u64) -> Vec<Job<Script>> {
@@ -43,6 +81,9 @@ pub fn jobs(times: u64) -> Vec<Job<Script>> {
         }
     }
     plan.random("made-up histories", 4 * times, records::made_up);
+    plan.random(PLAYED_LISTS, 20 * times, played::changing);
+    plan.once(LONGEST_LISTS, |_| played::most_calls());
+    plan.once(LONGEST_LISTS, |_| played::most_words());
     plan.random("decode", 6 * times, codings::decodings);
     for form in &FORMS {
         plan.once("encode", |_| codings::edge_encodings(form));
@@ -77,6 +118,46 @@ mod tests {
         let mut jobs = jobs(1);
         jobs.retain(|job| job.number == 0);
         jobs
+    }
+
+    fn count<T>(jobs: &[Job<T>], kind: &str) -> u64 {
+        jobs.iter().filter(|job| job.kind == kind).count() as u64
+    }
+
+    #[test]
+    fn every_kind_that_makes_calls_is_played_in_both_ways() {
+        let (scripts, pairs) = (jobs(2), pairs(2));
+        for (kind, one_in) in OF_CALLS {
+            let wanted = count(&scripts, kind) / one_in;
+            assert!(wanted > 0, "{kind}");
+            assert_eq!(count(&pairs, kind), wanted, "{kind}");
+        }
+        for job in jobs(1) {
+            let known = OF_CALLS.iter().any(|&(kind, _)| kind == job.kind);
+            let other = [PLAYED_LISTS, LONGEST_LISTS, "bad scripts"].contains(&job.kind);
+            if !known && !other {
+                let script = job.made(1);
+                let mut lines = script.text.split(|&byte| byte == b'\n');
+                let call = lines.find(|line| line == b"back" || line.starts_with(b"word="));
+                assert_eq!(call, None, "{}", job.kind);
+            }
+        }
+    }
+
+    #[test]
+    fn a_pair_is_of_its_script() {
+        let (scripts, pairs) = (jobs(1), pairs(1));
+        for pair in pairs.iter().filter(|pair| pair.number == 3) {
+            let same = |job: &&Job<Script>| job.kind == pair.kind && job.number == 3;
+            let script = scripts.iter().find(same).map(|job| Pair::of(&job.made(1)));
+            let texts = |pair: Pair| pair.scripts.map(|script| script.text);
+            assert_eq!(
+                script.map(texts),
+                Some(texts(pair.made(1))),
+                "{}",
+                pair.kind
+            );
+        }
     }
 
     #[test]

@@ -10,6 +10,7 @@ pub const LENT: &str = "lists lent";
 pub const BEGUN: &str = "lists begun";
 pub const BETWEEN: &str = "lines between calls of a list";
 pub const ENDED: &str = "lists ended by";
+pub const STATE: &str = "state after lists";
 
 const MOST_BUT_ONE_CALL: usize = MOST_CALLS - 1;
 const MOST_BUT_ONE_WORD: usize = MOST_WORDS - 1;
@@ -41,14 +42,17 @@ pub fn count(tally: &mut Tally, list: &List, lent: &Lent, ended_by: &'static str
     }
 }
 
-/// On which machine a list is played or refused.
-pub fn count_begin(tally: &mut Tally, recorded: &Recorded, code: Code) {
+/// On which machine a list is played or refused, and whether the state is
+/// written after it.
+pub fn count_around(tally: &mut Tally, recorded: &Recorded, code: Code, state: bool) {
     let on = match recorded.held {
         _ if !recorded.well_formed() => "malformed setup",
         0 => "held = 0",
         _ => "held > 0",
     };
     tally.count_case(BEGUN, &format!("{on}, {code:?}"));
+    let state = if state { "written" } else { "not written" };
+    tally.count_case(STATE, &format!("{state}, {code:?}"));
 }
 
 fn sizes(list: &List) -> Vec<&'static str> {
@@ -240,6 +244,10 @@ back
         assert_eq!(
             cases(BEGUN, script),
             "held = 0, Done 2; malformed setup, Done 1; malformed setup, NoRoom 1"
+        );
+        assert_eq!(
+            cases(STATE, &script.replacen("show", "dump=1", 1)),
+            "not written, Done 1; written, Done 2; written, NoRoom 1"
         );
     }
 }

@@ -6,6 +6,7 @@ mod library;
 
 use std::env;
 use std::ffi::OsString;
+use std::fmt::Display;
 use std::io::{self, Read, Write};
 use std::path::Path;
 use std::process::ExitCode;
@@ -13,13 +14,12 @@ use std::thread;
 
 use reference::bench;
 use reference::compare;
-use reference::generate::jobs;
+use reference::generate::{jobs, pairs};
 use reference::minima::wanting;
 use reference::player::play;
-use reference::replay::replay;
+use reference::replay::{replay, replay_both_ways};
 use reference::session;
 use reference::sessions;
-use reference::trials::Summary;
 
 const USAGE: &str = "\
 usage: reference tag-choice | word-code
@@ -126,19 +126,23 @@ fn options_of(options: &[OsString]) -> Option<(u64, u64)> {
 
 fn replay_scripts(program: &Path, times: u64, seed: u64) -> Outcome {
     println!("replay of {}, seed {seed}", program.display());
-    let summary = replay(program, &jobs(times), seed, threads());
-    let summary = summary.map_err(|failure| failure.to_string())?;
-    held_to_minima(&summary, wanting(&summary.tally(), times))
+    let scripts = replay(program, &jobs(times), seed, threads());
+    let scripts = scripts.map_err(|failure| failure.to_string())?;
+    let pairs = replay_both_ways(program, &pairs(times), seed, threads());
+    let pairs = pairs.map_err(|failure| failure.to_string())?;
+    let wanting = wanting(&scripts, &pairs, times);
+    held_to_minima(format!("{scripts}\nin both ways\n{pairs}"), wanting)
 }
 
 fn compare_sessions(program: &Path, times: u64, seed: u64) -> Outcome {
     println!("sessions of {}, seed {seed}", program.display());
     let summary = sessions::compare(program, &sessions::jobs(times), seed, threads());
     let summary = summary.map_err(|failure| failure.to_string())?;
-    held_to_minima(&summary, sessions::minima::wanting(&summary, times))
+    let wanting = sessions::minima::wanting(&summary, times);
+    held_to_minima(summary, wanting)
 }
 
-fn held_to_minima(summary: &Summary, wanting: Vec<String>) -> Outcome {
+fn held_to_minima(summary: impl Display, wanting: Vec<String>) -> Outcome {
     match wanting.as_slice() {
         [] => Ok(summary.to_string()),
         wanting => Err(format!(

@@ -5,9 +5,11 @@ use crate::code::Code;
 use crate::facts::{MALFORMED, RESTORED, RING, RUN, RUNS, STEPS, STEPS_BACK};
 use crate::generate::lists::{self, SLOTS};
 use crate::generate::records::{BITS, ONTO};
-use crate::generate::{rows, WHOLE};
+use crate::generate::{rows, LONGEST_LISTS, PLAYED_LISTS, WHOLE};
+use crate::list_facts::{BEGUN, BETWEEN, ENDED, LENT, SIZE, STATE};
 use crate::reach_facts::{BROKEN, PART, PLACE, REGARDLESS};
 use crate::tally::Tally;
+use crate::trials::Summary;
 use crate::words::FORMS;
 
 const CURSORS: [&str; 14] = [
@@ -136,9 +138,93 @@ const REACHES: [(&str, &str, u64); 41] = [
     (REGARDLESS, "tag access", 1500),
 ];
 
+const LIST_CODES: [(Code, u64); 3] = [
+    (Code::Done, 4000),
+    (Code::NoRoom, 2000),
+    (Code::NoWords, 400),
+];
+
+const LOANS: [(&str, u64); 12] = [
+    ("exactly enough", 700),
+    ("a code too few alone", 300),
+    ("a count too few alone", 300),
+    ("a word too few alone", 200),
+    ("a code and a word too few", 150),
+    ("a count and a word too few", 150),
+    ("no codes alone", 300),
+    ("no counts alone", 300),
+    ("no words alone, some taken", 200),
+    ("no words, none taken", 300),
+    ("nothing", 200),
+    ("the most", 200),
+];
+
+const LIST_SIZES: [(&str, u64); 6] = [
+    ("one call", 1500),
+    ("several calls", 4000),
+    ("no words", 1500),
+    ("some words", 4000),
+    ("an empty run among them", 2500),
+    ("runs of words listed anew", 1500),
+];
+
+const LIST_LIMITS: [(&str, &str, u64); 7] = [
+    (SIZE, "4095 calls", 3),
+    (SIZE, "4096 calls", 20),
+    (SIZE, "16383 words", 10),
+    (SIZE, "16384 words", 40),
+    (ENDED, "a call too many", 10),
+    (ENDED, "words too many", 20),
+    (ENDED, "both too many", 3),
+];
+
+const LIST_ENDS: [&str; 24] = [
+    "fresh", "access", "exclude", "nzcv", "rgsr", "seed", "next", "held", "tags", "data",
+    "history", "x", "tag", "byte", "log", "dump", "play", "lend", "show", "decode", "a form",
+    "choose", "draw", "reach",
+];
+
+/// Pairs of a kind that are made once, and those that are random.
+const PAIRS: [(&str, u64, u64); 13] = [
+    ("rows of the paper", 1, 0),
+    ("rules of the setup", 2, 1),
+    ("random walks", 0, 3),
+    ("largest memory", 0, 1),
+    ("near words", 0, 2),
+    ("lists of calls", 0, 60),
+    ("cursors", 0, 1),
+    ("runs", 0, 1),
+    ("longest runs", 0, 1),
+    ("damaged records", 0, 40),
+    ("made-up histories", 0, 2),
+    ("reach", 0, 8),
+    ("kept bytes", 0, 1),
+];
+
+const PAIRED_STEPS_BACK: [(Code, u64); 4] = [
+    (Code::Done, 20_000),
+    (Code::Setup, 2000),
+    (Code::NoHistory, 8000),
+    (Code::BadRecord, 10_000),
+];
+
 /// A line for each count that is below its minimum. With so many times as
 /// many random scripts there must be so many times as much.
-pub fn wanting(tally: &Tally, times: u64) -> Vec<String> {
+pub fn wanting(scripts: &Summary, pairs: &Summary, times: u64) -> Vec<String> {
+    let one_by_one = |kind: &str| kind != PLAYED_LISTS && kind != LONGEST_LISTS;
+    let lists = scripts.tally_where(|kind| kind == PLAYED_LISTS);
+    let longest = scripts.tally_where(|kind| kind == LONGEST_LISTS);
+    [
+        wanting_of_calls(&scripts.tally_where(one_by_one), times),
+        wanting_of_lists(&lists, times),
+        wanting_of_longest_lists(&longest),
+        wanting_of_pairs(pairs, times),
+    ]
+    .concat()
+}
+
+/// Of scripts whose calls are played one by one.
+fn wanting_of_calls(tally: &Tally, times: u64) -> Vec<String> {
     let mut counts = Counts::of(tally, times);
     counts.lists();
     counts.calls();
@@ -152,6 +238,100 @@ pub fn wanting(tally: &Tally, times: u64) -> Vec<String> {
     rows::names().for_each(|name| counts.once("rows of the paper", name, 1));
     counts.once(WHOLE, "bad", 1000);
     counts.once(WHOLE, "played", 20);
+    counts.wanting
+}
+
+/// Of scripts whose calls are played as lists.
+fn wanting_of_lists(tally: &Tally, times: u64) -> Vec<String> {
+    let mut counts = Counts::of(tally, times);
+    for (code, minimum) in LIST_CODES {
+        let name = format!("lists played as one, {code:?}");
+        counts.many(&name, tally.lists.ended(code), minimum);
+        for on in ["held = 0", "held > 0", "malformed setup"] {
+            counts.case(BEGUN, &format!("{on}, {code:?}"), 70);
+        }
+        for state in ["written", "not written"] {
+            counts.case(STATE, &format!("{state}, {code:?}"), 150);
+        }
+    }
+    counts.many("calls of lists played as one", tally.lists.calls, 20_000);
+    counts.many(
+        "calls of lists beside the plain machine",
+        tally.beside.calls,
+        20_000,
+    );
+    for (name, minimum) in LOANS {
+        counts.case(LENT, name, minimum);
+    }
+    for (name, minimum) in LIST_SIZES {
+        counts.case(SIZE, name, minimum);
+    }
+    LIST_ENDS
+        .iter()
+        .for_each(|name| counts.case(ENDED, name, 100));
+    counts.case(ENDED, "the end of the script", 15);
+    counts.case(BETWEEN, "list", 15_000);
+    counts.case(BETWEEN, "passed over", 4000);
+    counts.wanting
+}
+
+/// Of lists at their limits, which are the same however many random scripts
+/// there are.
+fn wanting_of_longest_lists(tally: &Tally) -> Vec<String> {
+    let mut counts = Counts::of(tally, 1);
+    counts.at_least("calls of the longest list", tally.lists.longest, 4096);
+    for (code, minimum) in [(Code::Done, 70), (Code::NoRoom, 6), (Code::NoWords, 10)] {
+        let name = format!("lists at their limits, {code:?}");
+        counts.at_least(&name, tally.lists.ended(code), minimum);
+    }
+    for (group, name, minimum) in LIST_LIMITS {
+        counts.once(group, name, minimum);
+    }
+    counts.wanting
+}
+
+/// Of scripts that are played in both ways.
+fn wanting_of_pairs(pairs: &Summary, times: u64) -> Vec<String> {
+    let tally = pairs.tally();
+    let mut counts = Counts::of(&tally, times);
+    for (kind, once, random) in PAIRS {
+        let name = format!("{kind}, both ways");
+        counts.at_least(&name, pairs.trials(kind), once + times * random);
+    }
+    counts.many("lines alike both ways", tally.lines_both_ways, 300_000);
+    let lists = &tally.lists;
+    counts.many("lists of pairs", lists.ended(Code::Done), 50_000);
+    counts.many("calls of lists of pairs", lists.calls, 150_000);
+    counts.at_least("calls of the longest list of a pair", lists.longest, 1000);
+    counts.many(
+        "calls of pairs beside the plain machine",
+        tally.beside.calls,
+        100_000,
+    );
+    for (on, minimum) in [
+        ("held = 0", 25_000),
+        ("held > 0", 25_000),
+        ("malformed setup", 1500),
+    ] {
+        let name = format!("{on}, {:?}", Code::Done);
+        counts.many(
+            &format!("lists of pairs begun: {name}"),
+            tally.cases(BEGUN, &name),
+            minimum,
+        );
+    }
+    for (code, minimum) in PAIRED_STEPS_BACK {
+        let name = format!("steps back of pairs, {code:?}");
+        counts.many(&name, tally.steps_back(code), minimum);
+    }
+    for (code, minimum) in RUN_CODES {
+        let name = format!("runs of pairs, {code:?}");
+        counts.many(&name, tally.runs(code), minimum);
+    }
+    for form in &FORMS {
+        let name = format!("{} in pairs, accepted", form.name);
+        counts.many(&name, tally.words(form, Code::Done), 2000);
+    }
     counts.wanting
 }
 
@@ -268,11 +448,13 @@ impl Counts<'_> {
 #[cfg(test)]
 mod tests {
     use super::*;
+    use crate::generate::pairs::Pair;
+    use crate::generate::Script;
 
     #[test]
     fn everything_is_wanting_where_nothing_was_made() {
-        let nothing = wanting(&Tally::default(), 1);
-        assert!(nothing.len() > 200, "{}", nothing.len());
+        let nothing = wanting(&Summary::of::<Script>(), &Summary::of::<Pair>(), 1);
+        assert!(nothing.len() > 300, "{}", nothing.len());
         for name in [
             "random lists: C = 7: 0, at least 900 are wanted",
             "malformed: word 7: 0, at least 30 are wanted",
@@ -281,6 +463,15 @@ mod tests {
             "rows of the paper: S1 and two steps back: 0, at least 1 are wanted",
             "reaches: 0, at least 20000 are wanted",
             "not reached: 65537 tags: 0, at least 15 are wanted",
+            "lists played as one, NoWords: 0, at least 400 are wanted",
+            "lists begun: held > 0, NoRoom: 0, at least 70 are wanted",
+            "state after lists: written, NoRoom: 0, at least 150 are wanted",
+            "lists ended by: a form: 0, at least 100 are wanted",
+            "lists ended by: both too many: 0, at least 3 are wanted",
+            "lists of: 16383 words: 0, at least 10 are wanted",
+            "calls of the longest list: 0, at least 4096 are wanted",
+            "lists of calls, both ways: 0, at least 60 are wanted",
+            "lines alike both ways: 0, at least 300000 are wanted",
         ] {
             assert!(nothing.iter().any(|line| line == name), "{name}");
         }
@@ -290,7 +481,7 @@ mod tests {
     fn a_count_is_held_to_its_minimum() {
         let mut tally = Tally::default();
         let missing = |tally: &Tally, times| {
-            let lines = wanting(tally, times);
+            let lines = wanting_of_calls(tally, times);
             lines
                 .iter()
                 .filter(|line| line.starts_with("runs: 4096 words"))

@@ -22,6 +22,19 @@ impl<Made> Job<Made> {
         }
         (self.make)(&mut Random::new(random.bits() ^ self.number))
     }
+
+    /// The same choices, of which something else is made.
+    pub fn map<Other>(self, change: impl Fn(Made) -> Other + Send + Sync + 'static) -> Job<Other>
+    where
+        Made: 'static,
+    {
+        let make = self.make;
+        Job {
+            kind: self.kind,
+            number: self.number,
+            make: Box::new(move |random| change(make(random))),
+        }
+    }
 }
 
 pub struct Plan<Made> {
@@ -85,5 +98,9 @@ mod tests {
         assert_ne!(number(&jobs, 0, 1), number(&jobs, 2, 1));
         let numbers: Vec<u64> = jobs.iter().map(|job| job.number).collect();
         assert_eq!(numbers, [0, 1, 0]);
+        let made: Vec<u64> = jobs.iter().map(|job| job.made(1)).collect();
+        let others = jobs.into_iter().map(|job| job.map(|number| !number));
+        let others: Vec<u64> = others.map(|job| !job.made(1)).collect();
+        assert_eq!(others, made);
     }
 }

@@ -147,7 +147,8 @@ impl Player {
             _ => &[],
         };
         list_facts::count(&mut self.tally, &list, &self.lent, ended_by);
-        list_facts::count_begin(&mut self.tally, &self.recorded, code);
+        let state = self.state_after_call;
+        list_facts::count_around(&mut self.tally, &self.recorded, code, state);
         self.write(format_args!(
             "played={:02x} {:08x}",
             code as u8,

@@ -17,7 +17,7 @@ use crate::plan::Job;
 use crate::process::{run_fed, Ended, Feed};
 use crate::session::{answer, Session};
 use crate::tally::Tally;
-use crate::trials::{try_all, Failure, Summary, Trial};
+use crate::trials::{try_all, Failure, Input, Summary, Trial};
 pub use inputs::jobs;
 
 /// An input with what must be answered.
@@ -61,12 +61,12 @@ impl Case {
 impl Trial for Case {
     const NAME: &'static str = "session";
 
-    fn input(&self) -> &[u8] {
-        &self.input
-    }
-
-    fn answer(&self) -> &[u8] {
-        &self.answer
+    fn inputs(&self) -> Vec<Input<'_>> {
+        vec![Input {
+            ending: "session",
+            text: &self.input,
+            answer: &self.answer,
+        }]
     }
 
     fn tally(&self) -> &Tally {
@@ -226,8 +226,11 @@ input, 2 bytes:
         let text = failure.to_string();
         let begin = "cut short, session 22, seed 7: another answer\nprogram, 22 bytes:\n  base=";
         assert!(text.starts_with(begin), "{text}");
-        let kept = fs::read(&failure.file).expect("the input is kept");
+        let [file] = failure.files.as_slice() else {
+            panic!("a session is one input");
+        };
+        let kept = fs::read(file).expect("the input is kept");
         assert_eq!(kept, changes::good()[..22]);
-        fs::remove_file(&failure.file).expect("the input can be removed");
+        fs::remove_file(file).expect("the input can be removed");
     }
 }

@@ -1,5 +1,5 @@
-//! Tries a program on the inputs of a plan, several at a time: counts those
-//! that were answered right, and keeps the first that was not.
+//! Tries a program on the inputs of a plan, several at a time: counts the
+//! trials that were answered right, and keeps the first that was not.
 
 use std::collections::BTreeMap;
 use std::env;
@@ -13,19 +13,26 @@ use std::thread;
 use crate::plan::Job;
 use crate::tally::Tally;
 
-/// An input with what must be written for it.
+/// What a program is given, with what must be written for it.
+pub struct Input<'a> {
+    /// How its file's name ends.
+    pub ending: &'static str,
+    pub text: &'a [u8],
+    pub answer: &'a [u8],
+}
+
+/// An input, or several that belong together.
 pub trait Trial {
-    /// What such an input is called.
+    /// What such a trial is called.
     const NAME: &'static str;
-    fn input(&self) -> &[u8];
-    fn answer(&self) -> &[u8];
+    fn inputs(&self) -> Vec<Input<'_>>;
     fn tally(&self) -> &Tally;
 }
 
-/// Counts of the inputs of one kind.
+/// Counts of the trials of one kind.
 #[derive(Default)]
 struct Counts {
-    inputs: u64,
+    trials: u64,
     bytes_in: usize,
     bytes_out: usize,
     tally: Tally,
@@ -47,26 +54,34 @@ impl Summary {
 
     fn count(&mut self, kind: &'static str, trial: &impl Trial) {
         let counts = self.kinds.entry(kind).or_default();
-        counts.inputs += 1;
-        counts.bytes_in += trial.input().len();
-        counts.bytes_out += trial.answer().len();
+        counts.trials += 1;
+        for input in trial.inputs() {
+            counts.bytes_in += input.text.len();
+            counts.bytes_out += input.answer.len();
+        }
         counts.tally.add(trial.tally());
     }
 
-    /// How many inputs of a kind there were.
-    pub fn inputs(&self, kind: &str) -> u64 {
-        self.kinds.get(kind).map_or(0, |counts| counts.inputs)
+    /// How many trials of a kind there were.
+    pub fn trials(&self, kind: &str) -> u64 {
+        self.kinds.get(kind).map_or(0, |counts| counts.trials)
     }
 
-    pub fn all_inputs(&self) -> u64 {
-        self.kinds.values().map(|counts| counts.inputs).sum()
+    pub fn all_trials(&self) -> u64 {
+        self.kinds.values().map(|counts| counts.trials).sum()
     }
 
     pub fn tally(&self) -> Tally {
+        self.tally_where(|_| true)
+    }
+
+    /// Of the kinds that are wanted.
+    pub fn tally_where(&self, wanted: impl Fn(&str) -> bool) -> Tally {
         let mut all = Tally::default();
         self.kinds
-            .values()
-            .for_each(|counts| all.add(&counts.tally));
+            .iter()
+            .filter(|(kind, _)| wanted(kind))
+            .for_each(|(_, counts)| all.add(&counts.tally));
         all
     }
 }
@@ -76,14 +91,14 @@ impl fmt::Display for Summary {
         let name = self.name;
         for (kind, counts) in &self.kinds {
             let Counts {
-                inputs,
+                trials,
                 bytes_in,
                 bytes_out,
                 tally,
             } = counts;
             write!(
                 out,
-                "{kind}: {inputs} {name}s ({bytes_in} bytes), {bytes_out} bytes of output equal"
+                "{kind}: {trials} {name}s ({bytes_in} bytes), {bytes_out} bytes of output equal"
             )?;
             match tally.to_string().as_str() {
                 "" => writeln!(out)?,
@@ -91,20 +106,21 @@ impl fmt::Display for Summary {
             }
         }
         let all = self.tally();
-        writeln!(out, "all: {} {name}s; {all}", self.all_inputs())?;
+        writeln!(out, "all: {} {name}s; {all}", self.all_trials())?;
         writeln!(out, "{}", all.by_form())?;
         write!(out, "{}", all.by_case())
     }
 }
 
-/// An input on which the program failed.
+/// A trial in which the program failed.
 pub struct Failure {
     name: &'static str,
     kind: &'static str,
     number: u64,
     seed: u64,
     complaint: String,
-    pub file: PathBuf,
+    /// Where its inputs are kept.
+    pub files: Vec<PathBuf>,
 }
 
 impl fmt::Display for Failure {
@@ -115,30 +131,38 @@ impl fmt::Display for Failure {
             "{}, {name} {}, seed {}: {}",
             self.kind, self.number, self.seed, self.complaint
         )?;
-        write!(out, "the {name}: {}", self.file.display())
+        let files = self.files.iter().map(|file| file.display().to_string());
+        write!(
+            out,
+            "the {name}: {}",
+            files.collect::<Vec<_>>().join(" and ")
+        )
     }
 }
 
-/// Puts the input where it can be tried again.
+/// Puts the inputs where they can be tried again.
 fn keep<T: Trial>(job: &Job<T>, seed: u64, trial: &T, complaint: String) -> Failure {
-    let (name, kind, number) = (T::NAME, job.kind, job.number);
+    let (kind, number) = (job.kind, job.number);
     let kind_in_file = kind.replace(' ', "-");
-    let file = format!("reference-{kind_in_file}-{number}-seed-{seed}.{name}");
-    let file = env::temp_dir().join(file);
-    if let Err(error) = fs::write(&file, trial.input()) {
-        eprintln!("{} cannot be written: {error}", file.display());
-    }
+    let begin = format!("reference-{kind_in_file}-{number}-seed-{seed}");
+    let kept = |input: Input| {
+        let file = env::temp_dir().join(format!("{begin}.{}", input.ending));
+        if let Err(error) = fs::write(&file, input.text) {
+            eprintln!("{} cannot be written: {error}", file.display());
+        }
+        file
+    };
     Failure {
-        name,
+        name: T::NAME,
         kind,
         number,
         seed,
         complaint,
-        file,
+        files: trial.inputs().into_iter().map(kept).collect(),
     }
 }
 
-/// Tries all inputs. A complaint says why one failed; of several failures the
+/// Makes all trials. A complaint says why one failed; of several failures the
 /// one of the first job is given.
 pub fn try_all<T: Trial>(
     jobs: &[Job<T>],

@@ -7,7 +7,7 @@ use crate::record::WORDS;
 use crate::recorded::Recorded;
 use crate::script;
 use crate::tally::Tally;
-use crate::trials::Trial;
+use crate::trials::{Input, Trial};
 
 /// A script with what must be written for it.
 pub struct Script {
@@ -27,17 +27,22 @@ impl Script {
         played.tally.count_case(WHOLE, name);
         Script { text, played }
     }
+
+    /// As an input whose file's name ends so.
+    pub fn input(&self, ending: &'static str) -> Input<'_> {
+        Input {
+            ending,
+            text: &self.text,
+            answer: &self.played.output,
+        }
+    }
 }
 
 impl Trial for Script {
     const NAME: &'static str = "script";
 
-    fn input(&self) -> &[u8] {
-        &self.text
-    }
-
-    fn answer(&self) -> &[u8] {
-        &self.played.output
+    fn inputs(&self) -> Vec<Input<'_>> {
+        vec![self.input("script")]
     }
 
     fn tally(&self) -> &Tally {

@@ -53,9 +53,9 @@ pub fn wanting(summary: &Summary, times: u64) -> Vec<String> {
     let tally = summary.tally();
     let mut counts = Counts::of(&tally, times);
     for (kind, once, random) in KINDS {
-        counts.at_least(kind, summary.inputs(kind), once + times * random);
+        counts.at_least(kind, summary.trials(kind), once + times * random);
     }
-    counts.at_least("inputs", summary.all_inputs(), 5000);
+    counts.at_least("inputs", summary.all_trials(), 5000);
     for (code, minimum) in CODES {
         for access in [true, false] {
             counts.case(CODE, &code_and_access(code, access), minimum);
