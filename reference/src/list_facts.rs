@@ -92,9 +92,9 @@ fn listed_anew(list: &List) -> bool {
     runs.windows(2).any(differ)
 }
 
-/// What is the case with what a list is lent. Too few of one thing alone is
-/// one too few, with enough of the others.
-fn loans(list: &List, lent: &Lent) -> [(&'static str, bool); 12] {
+/// What is the case with what a list is lent. Of what is not named as too few
+/// or as nothing there is enough.
+fn loans(list: &List, lent: &Lent) -> [(&'static str, bool); 13] {
     let (calls, words) = (list.calls().len(), list.words());
     let enough_codes = lent.codes >= calls;
     let enough_counts = lent.counts >= calls;
@@ -118,6 +118,10 @@ fn loans(list: &List, lent: &Lent) -> [(&'static str, bool); 12] {
         (
             "a word too few alone",
             one_word_short && enough_codes && enough_counts,
+        ),
+        (
+            "a code and a count too few",
+            one_code_short && one_count_short && enough_words,
         ),
         (
             "a code and a word too few",
@@ -207,7 +211,8 @@ mod tests {
             ("00000002 00000002 00000000", "no words alone, some taken 1"),
             ("00000000 00000000 00000000", "nothing 1"),
             ("00009000 00009000 00009000", "the most 1"),
-            ("00000001 00000001 00000003", ""),
+            ("00000001 00000001 00000003", "a code and a count too few 1"),
+            ("00000003 00000003 00000004", ""),
         ] {
             let script = format!("play=1\nlend={lend}\n{calls}");
             assert_eq!(cases(LENT, &script), told, "{lend}");

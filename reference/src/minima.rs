@@ -144,11 +144,12 @@ const LIST_CODES: [(Code, u64); 3] = [
     (Code::NoWords, 400),
 ];
 
-const LOANS: [(&str, u64); 12] = [
+const LOANS: [(&str, u64); 13] = [
     ("exactly enough", 700),
     ("a code too few alone", 300),
     ("a count too few alone", 300),
     ("a word too few alone", 200),
+    ("a code and a count too few", 150),
     ("a code and a word too few", 150),
     ("a count and a word too few", 150),
     ("no codes alone", 300),

@@ -137,6 +137,7 @@ impl Author {
         &self.recorded().machine
     }
 
+    /// Without the calls of a list that has not ended.
     pub fn recorded(&self) -> &Recorded {
         self.player.recorded()
     }

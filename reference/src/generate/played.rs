@@ -3,7 +3,7 @@
 
 use super::author::{Author, Script};
 use super::chosen_words::{accepted, refused, words_of_run, Refused};
-use super::operands::{any_form, any_word};
+use super::operands::{any_form, any_word, mask};
 use super::random::Random;
 use super::walks::{setup, some_addresses};
 use crate::encoder::decode;
@@ -87,7 +87,7 @@ fn other_line(random: &mut Random, recorded: &Recorded) -> String {
         5 => "play=0".into(),
         6 | 7 => "show".into(),
         8 => format!("access={}", random.below(2)),
-        9 => format!("exclude={:04x}", random.bits() as u16),
+        9 => format!("exclude={:04x}", mask(random)),
         10 => format!("nzcv={:02x}", random.below(16)),
         11 => format!("rgsr={:02x}", random.below(16)),
         12 => format!("seed={:04x}", random.bits() as u16),
@@ -103,12 +103,7 @@ fn other_line(random: &mut Random, recorded: &Recorded) -> String {
         20 => format!("byte={:08x} {:02x}", random.below(64), random.below(256)),
         21 => format!("log={:08x} {:016x}", random.below(8), random.bits()),
         22 => format!("decode={:08x}", random.bits() as u32),
-        23 => format!(
-            "choose={:x} {:x} {:04x}",
-            random.below(16),
-            random.below(16),
-            8
-        ),
+        23 => format!("choose={:x} 1 {:04x}", random.below(16), mask(random)),
         24 => format!("draw={:04x}", random.bits() as u16),
         25 => format!("reach={:016x}", machine.base | random.below(16) << 56),
         26 => {
@@ -151,7 +146,7 @@ fn lend(author: &mut Author, random: &mut Random, calls: &[Call]) {
     let (calls, words) = (calls.len() as u64, words as u64);
     let (fewer_calls, fewer_words) = (calls - 1, words.saturating_sub(1));
     let more = random.pick(&[0, 1, 5, 0xF000_0000]);
-    let line = match random.below(24) {
+    let line = match random.below(25) {
         0 | 1 => loan(calls, calls, words),
         2 => loan(fewer_calls, calls + more, words + more),
         3 => loan(calls + more, fewer_calls, words + more),
@@ -163,7 +158,8 @@ fn lend(author: &mut Author, random: &mut Random, calls: &[Call]) {
         9 => loan(calls + more, calls + more, 0),
         10 => loan(0, 0, 0),
         11 => any_loan(random),
-        12..=21 => loan(calls + more, calls + more, words + more),
+        12 => loan(fewer_calls, fewer_calls, words + more),
+        13..=22 => loan(calls + more, calls + more, words + more),
         _ => return,
     };
     author.line(&line);
