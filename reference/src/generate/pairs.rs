@@ -3,6 +3,7 @@
 
 use super::author::Script;
 use crate::player::play;
+use crate::script::MOST_BYTES;
 use crate::tally::Tally;
 use crate::trials::{Input, Trial};
 
@@ -20,6 +21,7 @@ impl Pair {
     pub fn of(script: &Script) -> Pair {
         let scripts = WAYS.map(|way| {
             let text = in_way(&script.text, way);
+            assert!(text.len() <= MOST_BYTES, "a pair's script is played");
             let played = play(&text);
             Script { text, played }
         });
