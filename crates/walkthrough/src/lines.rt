@@ -6,6 +6,10 @@ fn wide(b: u8) -> u64 {
     b as u64
 }
 
+fn long(n: u32) -> u64 {
+    n as u64
+}
+
 // The start of a run's line: how many words were done.
 pub(crate) fn write_run(count: usize) {
     let mut out = *b"run, 0 words done";
@@ -44,5 +48,19 @@ pub(crate) fn write_place(machine: Machine, tag: u8) {
     let x = machine.registers.x;
     text::put_hex(&mut out, 23, 16, x[0]);
     text::put_hex(&mut out, 63, 2, wide(tag));
+    io::write_all(1, &out);
+}
+
+// A list of calls: how many were played, the code of each, and X0 after them.
+pub(crate) fn write_list(count: usize, codes: &[u32; 8], machine: Machine) {
+    let mut out = *b"list, 0 calls played: codes 0 0 0 0 0 0 0 0, x0 = 0000000000000000\n";
+    let x = machine.registers.x;
+    text::put_hex(&mut out, 6, 1, count as u64);
+    text::put_hex(&mut out, 50, 16, x[0]);
+    let mut i = 0;
+    while i < 8 {
+        text::put_hex(&mut out, 28 + 2 * i, 1, long(codes[i]));
+        i += 1;
+    }
     io::write_all(1, &out);
 }

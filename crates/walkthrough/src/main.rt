@@ -4,6 +4,9 @@ use isa::Form;
 use isa::Mode;
 use isa::TagStoreOp;
 use machine::Machine;
+use simulator::BACK;
+use simulator::RUN;
+use simulator::STEP;
 
 mod lines;
 
@@ -105,6 +108,38 @@ fn back_to_block(
     machine
 }
 
+// The same calls up to there, as one list, on memories and a history of their own.
+fn in_one_list() {
+    let word = tag_store(TagStoreOp::Stg, Mode::Post, 0, 16);
+    let calls = [RUN + 2, STEP, STEP, STEP, STEP, STEP, BACK, BACK];
+    let words = [
+        tag_store(TagStoreOp::St2g, Mode::Offset, 0, 0),
+        tag_store(TagStoreOp::St2g, Mode::Offset, 1, 0),
+        word,
+        word,
+        word,
+        word,
+        word,
+    ];
+    let mut data = [0u8; 64];
+    let mut tags = [0u8; 4];
+    let mut history = [0u64; 32];
+    let mut codes = [0u32; 8];
+    let mut counts = [0usize; 8];
+    let played = simulator::play(
+        start(),
+        &calls,
+        &words,
+        &mut data,
+        &mut tags,
+        &mut history,
+        &mut codes,
+        &mut counts,
+    );
+    let after = played.machine;
+    lines::write_list(played.count, &codes, after);
+}
+
 // Four granules and a history of four slots.
 fn main() {
     let mut data = [0u8; 64];
@@ -117,4 +152,5 @@ fn main() {
     let second = back(left, &mut data, &mut tags, &history);
     let first = back(second, &mut data, &mut tags, &history);
     back(first, &mut data, &mut tags, &history);
+    in_one_list();
 }
