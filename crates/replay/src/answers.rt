@@ -19,7 +19,7 @@ fn put_one(out: &mut [u8], filled: usize, kind: u64, a: u64) -> usize
     put_line(out, filled, Line::of(kind, [a, 0, 0, 0, 0]))
 }
 
-fn put_two(out: &mut [u8], filled: usize, kind: u64, a: u64, b: u64) -> usize
+pub(crate) fn put_two(out: &mut [u8], filled: usize, kind: u64, a: u64, b: u64) -> usize
     requires { ⌜ Filled filled (now out) ⌝ }
     ensures { λ r. ⌜ Filled r (now (out .exit)) ⌝ }
 {
@@ -127,15 +127,39 @@ fn put_state(
 }
 
 // Puts the code of a step, run or step back, and for a run how many words were done.
-fn put_code(player: Player, kind: u64, out: &mut [u8], filled: usize) -> usize
+pub(crate) fn put_code(
+    is_run: bool,
+    code: u32,
+    count: usize,
+    out: &mut [u8],
+    filled: usize,
+) -> usize
     requires { ⌜ Filled filled (now out) ⌝ }
     ensures { λ r. ⌜ Filled r (now (out .exit)) ⌝ }
 {
-    let code = player.code as u64;
-    if kind == kinds::RUN {
-        put_two(out, filled, kinds::RAN, code, player.count as u64)
+    if is_run {
+        put_two(out, filled, kinds::RAN, code as u64, count as u64)
     } else {
-        put_one(out, filled, kinds::CODE, code)
+        put_one(out, filled, kinds::CODE, code as u64)
+    }
+}
+
+// Puts the state, unless a `dump=0` holds.
+pub(crate) fn put_dump(
+    player: Player,
+    tags: &[u8],
+    data: &[u8],
+    history: &[u64],
+    out: &mut [u8],
+    filled: usize,
+) -> usize
+    requires { ⌜ Filled filled (now out) ⌝ }
+    ensures { λ r. ⌜ Filled r (now (out .exit)) ⌝ }
+{
+    if player.dump {
+        put_state(player, tags, data, history, out, filled)
+    } else {
+        filled
     }
 }
 
@@ -152,12 +176,8 @@ fn put_call(
     requires { ⌜ Filled filled (now out) ⌝ }
     ensures { λ r. ⌜ Filled r (now (out .exit)) ⌝ }
 {
-    let n = put_code(player, kind, out, filled);
-    if player.dump {
-        put_state(player, tags, data, history, out, n)
-    } else {
-        n
-    }
+    let n = put_code(kind == kinds::RUN, player.code, player.count, out, filled);
+    put_dump(player, tags, data, history, out, n)
 }
 
 fn put_decoded(word: u64, out: &mut [u8], filled: usize) -> usize

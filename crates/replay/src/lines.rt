@@ -62,6 +62,8 @@ fn call_shape(kind: u64) -> Shape {
         kinds::RUN => row(*b"run     ", 3, [8, 0, 0, 0, 0]),
         kinds::BACK => row(*b"back    ", 4, [0, 0, 0, 0, 0]),
         kinds::DUMP => row(*b"dump    ", 4, [1, 0, 0, 0, 0]),
+        kinds::PLAY => row(*b"play    ", 4, [1, 0, 0, 0, 0]),
+        kinds::LEND => row(*b"lend    ", 4, [8, 8, 8, 0, 0]),
         kinds::SHOW => row(*b"show    ", 4, [0, 0, 0, 0, 0]),
         kinds::DECODE => row(*b"decode  ", 6, [8, 0, 0, 0, 0]),
         kinds::CHOOSE => row(*b"choose  ", 6, [1, 1, 4, 0, 0]),
@@ -91,6 +93,7 @@ fn answer_shape(kind: u64) -> Shape {
     match kind {
         kinds::CODE => row(*b"code    ", 4, [1, 0, 0, 0, 0]),
         kinds::RAN => row(*b"ran     ", 3, [1, 8, 0, 0, 0]),
+        kinds::PLAYED => row(*b"played  ", 6, [2, 8, 0, 0, 0]),
         kinds::DECODED => row(*b"decoded ", 7, [1, 0, 0, 0, 0]),
         kinds::ENCODED => row(*b"encoded ", 7, [1, 8, 0, 0, 0]),
         kinds::CHOSEN => row(*b"chosen  ", 6, [1, 0, 0, 0, 0]),

@@ -1,21 +1,23 @@
 // Plays a script from standard input on the machine and writes what each call answers and the state (docs/MANUAL.md,
 // "Replaying a script").
 use lines::Line;
+use lists::MOST_CALLS;
+use lists::MOST_TAKEN;
 use player::MOST_DATA;
 use player::MOST_HISTORY;
 use player::MOST_LISTED;
 use player::MOST_TAGS;
-use player::Player;
 ghost use Prim.Native.Nat.{_≤_};
 ghost use lib.ListN.{length};
-ghost use Rattle.replay.specs.Buffer.{Filled};
 
 mod answers;
 mod forms;
 mod kinds;
 mod lines;
+mod lists;
 mod numbers;
 mod player;
+mod playing;
 mod reached;
 mod reader;
 mod writer;
@@ -47,58 +49,41 @@ fn write_bad(number: usize, out: &mut [u8])
     io::write_all(1, &out[..n]);
 }
 
-// What playing a line leaves: the player, and how many bytes of the buffer are filled.
-struct Played {
-    player: Player,
-    filled: usize,
-}
-
-fn play_line(
-    player: Player,
-    line: Line,
-    tags: &mut [u8],
-    data: &mut [u8],
-    history: &mut [u64],
-    list: &mut [u32],
-    out: &mut [u8],
-    filled: usize,
-) -> Played
-    requires { ⌜ Filled filled (now out) ⌝ }
-    ensures { λ r. ⌜ Filled (r .filled) (now (out .exit)) ⌝ }
-{
-    let after = player::after(player, line, tags, data, history, list);
-    let n = answers::put_answer(after, line, tags, data, history, out, filled);
-    Played {
-        player: after,
-        filled: n,
-    }
-}
-
-// Plays a script that has no wrong line.
+// Plays a script that has no wrong line. Its end is played like a line too, as it ends a list of calls.
 fn play(
     s: &[u8],
     tags: &mut [u8],
     data: &mut [u8],
     history: &mut [u64],
     list: &mut [u32],
+    calls: &mut [usize],
+    words: &mut [u32],
     out: &mut [u8],
 )
     requires { ⌜ 128 ≤ length (now out) ⌝ }
 {
-    let mut player = player::fresh(0, true);
-    let mut filled = 0;
+    let mut progress = playing::start();
     let mut at = 0;
     loop {
         let line = reader::read(s, at);
+        let after = playing::play_line(
+            progress,
+            line,
+            tags,
+            data,
+            history,
+            list,
+            calls,
+            words,
+            out,
+        );
+        progress = after;
         if line.next <= at {
             break;
         }
-        let played = play_line(player, line, tags, data, history, list, out, filled);
-        let after = played.player;
-        player = after;
-        filled = played.filled;
         at = line.next;
     }
+    let filled = progress.filled;
     io::write_all(1, &out[..filled]);
 }
 
@@ -108,6 +93,8 @@ fn replay(
     data: &mut [u8],
     history: &mut [u64],
     list: &mut [u32],
+    calls: &mut [usize],
+    words: &mut [u32],
     out: &mut [u8],
 )
     requires { ⌜ 128 ≤ length (now out) ⌝ }
@@ -120,7 +107,7 @@ fn replay(
     let script = &input[..n];
     let wrong = first_wrong_line(script);
     if wrong == 0 {
-        play(script, tags, data, history, list, out);
+        play(script, tags, data, history, list, calls, words, out);
     } else {
         write_bad(wrong, out);
     }
@@ -133,9 +120,11 @@ fn lend(
     data: &mut [u8; MOST_DATA],
     history: &mut [u64; MOST_HISTORY],
     list: &mut [u32; MOST_LISTED],
+    calls: &mut [usize; MOST_CALLS],
+    words: &mut [u32; MOST_TAKEN],
     out: &mut [u8; 65536],
 ) {
-    replay(input, tags, data, history, list, out);
+    replay(input, tags, data, history, list, calls, words, out);
 }
 
 fn main() {
@@ -144,6 +133,8 @@ fn main() {
     let mut data = [0u8; MOST_DATA];
     let mut history = [0u64; MOST_HISTORY];
     let mut list = [0u32; MOST_LISTED];
+    let mut calls = [0usize; MOST_CALLS];
+    let mut words = [0u32; MOST_TAKEN];
     let mut out = [0u8; 65536];
     lend(
         &mut input,
@@ -151,6 +142,8 @@ fn main() {
         &mut data,
         &mut history,
         &mut list,
+        &mut calls,
+        &mut words,
         &mut out,
     );
 }

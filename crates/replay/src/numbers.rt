@@ -3,7 +3,7 @@
 ghost use Prim.Native.Nat.{_≤_};
 
 pub(crate) fn at_most(n: usize, most: usize) -> usize
-    ensures { λ r. ⌜ r ≤ most ⌝ }
+    ensures { λ r. ⌜ (r ≤ n) × (r ≤ most) ⌝ }
 {
     if n < most { n } else { most }
 }

@@ -29,9 +29,9 @@ pub(crate) struct Player {
     data_end: usize,
     history_end: usize,
     list_end: usize,
-    // Whether a state is written after a call.
+    // Whether a state is written after a call or a list of calls.
     pub(crate) dump: bool,
-    // The code of the last call, and how many words the last run did.
+    // The code of the last call or list of calls, and how many words of a run or calls of a list were done.
     pub(crate) code: u32,
     pub(crate) count: usize,
 }
@@ -173,13 +173,12 @@ fn call(
     }
 }
 
-fn answered(player: Player, end: Ran) -> Player {
+// The player after a call or a list of calls, which left this machine.
+pub(crate) fn answered(player: Player, code: u32, count: usize, machine: Machine) -> Player {
     let mut w = player;
-    let code = end.code;
-    let machine = end.machine;
     w.machine = machine;
-    w.code = code.number();
-    w.count = end.count;
+    w.code = code;
+    w.count = count;
     w
 }
 
@@ -207,7 +206,9 @@ fn called(
         &mut history[..h],
         &list[..n],
     );
-    answered(player, end)
+    let code = end.code;
+    let machine = end.machine;
+    answered(player, code.number(), end.count, machine)
 }
 
 fn with_register(player: Player, number: u64, value: u64) -> Player {

@@ -96,7 +96,7 @@ fn line_at(s: &[u8], at: usize, kind: u64) -> Line {
 // Whether the first number of a line is one that the kind has.
 fn is_allowed(kind: u64, first: u64) -> bool {
     match kind {
-        kinds::ACCESS | kinds::DUMP => first <= 1,
+        kinds::ACCESS | kinds::DUMP | kinds::PLAY => first <= 1,
         kinds::TAGS => first <= MOST_TAGS as u64,
         kinds::DATA => first <= MOST_DATA as u64,
         kinds::HISTORY => first <= MOST_HISTORY as u64,
@@ -141,7 +141,7 @@ fn after_passed_over(s: &[u8], at: usize) -> usize {
 
 fn wrong_line() -> Line {
     let values = [0u64; 5];
-    Line::of(kinds::PASSED_OVER, values)
+    Line::of(kinds::WRONG, values)
 }
 
 // The line at at. The place after it lies beyond at, or it is a wrong line. At the end of the script stands a wrong line.

@@ -11,7 +11,7 @@ abbrev Inv-loop : tie.InvT-loop
 Inv-loop player out₀ filled n₀ kind₀ out n kind = (Filled n out) × (length out ≡ length out₀)
 
 abbrev μ-loop : tie.MeasureT-loop
-μ-loop player out₀ filled n₀ kind₀ out n kind = 12 - kind
+μ-loop player out₀ filled n₀ kind₀ out n kind = 13 - kind
 
 loop-holds : tie.Need-loop-holds Inv-loop μ-loop
 loop-holds c = search needs

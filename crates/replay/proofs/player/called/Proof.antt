@@ -45,6 +45,9 @@ slice-aggregate-call-4 c = sym (length-take-le _ _ (omega arith))
 call-requires : tie.Need-call-requires
 call-requires c κs = search needs
 
+number-requires : tie.Need-number-requires
+number-requires c κs = search needs
+
 answered-requires : tie.Need-answered-requires
 answered-requires c κs = search needs
 
@@ -77,6 +80,7 @@ called-spec =
     slice-aggregate-call-3
     slice-aggregate-call-4
     call-requires
+    number-requires
     answered-requires
     same-length
     same-length-2

@@ -8,7 +8,7 @@ abbrev Inv-loop : tie.InvT-loop
 Inv-loop s at next kind₀ kind = Unit
 
 abbrev μ-loop : tie.MeasureT-loop
-μ-loop s at next kind₀ kind = 38 - kind
+μ-loop s at next kind₀ kind = 41 - kind
 
 after-passed-over-requires : tie.Need-after-passed-over-requires Inv-loop μ-loop
 after-passed-over-requires c κs = search needs
