@@ -43,16 +43,12 @@ pub(crate) fn emptied(collector: Collector) -> Collector {
     w
 }
 
-fn is_call(kind: u64) -> bool {
-    match kind {
-        kinds::WORD | kinds::RUN | kinds::BACK => true,
-        _ => false,
-    }
-}
-
 // Whether a line is a call that goes into the list.
 pub(crate) fn is_collected(collector: Collector, kind: u64) -> bool {
-    if collector.play { is_call(kind) } else { false }
+    match kind {
+        kinds::WORD | kinds::RUN | kinds::BACK => collector.play,
+        _ => false,
+    }
 }
 
 // How many words a call takes.

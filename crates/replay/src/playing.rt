@@ -1,4 +1,4 @@
-// Plays a line, and the list of calls that it ends.
+// Plays the lines of a script, by themselves or as lists of calls.
 use super::answers;
 use super::kinds;
 use super::lines::Line;
@@ -18,6 +18,7 @@ pub(crate) struct Progress {
     pub(crate) filled: usize,
 }
 
+// The progress at the start of a script.
 pub(crate) fn start() -> Progress
     ensures { λ r. ⌜ r .filled ≡ 0 ⌝ }
 {
@@ -31,11 +32,11 @@ pub(crate) fn start() -> Progress
 // The player after a list of calls, which is lent the parts of the memories that are the machine's.
 fn after_list(
     player: Player,
-    calls: &[usize],
-    words: &[u32],
     tags: &mut [u8],
     data: &mut [u8],
     history: &mut [u64],
+    calls: &[usize],
+    words: &[u32],
     codes: &mut [u32],
     counts: &mut [usize],
 ) -> Player {
@@ -121,11 +122,11 @@ fn after_collected(
     let n = at_most(collector.counts, counts.len());
     after_list(
         player,
-        &calls[..c],
-        &words[..w],
         tags,
         data,
         history,
+        &calls[..c],
+        &words[..w],
         &mut codes[..k],
         &mut counts[..n],
     )
@@ -159,7 +160,8 @@ fn play_list(
         &mut codes,
         &mut counts,
     );
-    let filled = put_list(
+    let filled = progress.filled;
+    let n = put_list(
         player,
         tags,
         data,
@@ -168,16 +170,16 @@ fn play_list(
         &codes,
         &counts,
         out,
-        progress.filled,
+        filled,
     );
     Progress {
         player,
         collector: lists::emptied(collector),
-        filled,
+        filled: n,
     }
 }
 
-// Plays the list so far if a line ends it.
+// Plays what is collected if a line ends the list.
 fn before_line(
     progress: Progress,
     line: Line,
@@ -266,7 +268,7 @@ fn collect_or_play(
     }
 }
 
-// Plays a line.
+// Plays a line, and before it the list of calls that it ends.
 pub(crate) fn play_line(
     progress: Progress,
     line: Line,
