@@ -82,7 +82,7 @@ pub(crate) fn is_ended(collector: Collector, kind: u64, number: u64) -> bool {
     }
 }
 
-// Puts a word at at, and answers the place after it. A list that has no room for a call was played before it.
+// Puts a word at at, and answers the place after it. There is room for it: a list that has none is played before the call.
 fn put_word(words: &mut [u32], at: usize, word: u32) -> usize {
     if at < words.len() {
         words[at] = word;
