@@ -6,7 +6,6 @@ use super::numbers::low_byte;
 use super::numbers::low_half;
 use super::numbers::low_word;
 use machine::Machine;
-use simulator::Answer;
 use simulator::Ran;
 
 // The most tag bytes, data bytes and history words that a script can give the machine, and words that it can list.
@@ -146,16 +145,6 @@ fn list_stored(player: Player, index: u64, value: u64, list: &mut [u32]) -> Play
     w
 }
 
-fn stepped(answer: Answer) -> Ran {
-    let code = answer.code;
-    let machine = answer.machine;
-    Ran {
-        code,
-        count: 0,
-        machine,
-    }
-}
-
 // Steps, runs the listed words or steps back.
 fn call(
     machine: Machine,
@@ -167,9 +156,9 @@ fn call(
     list: &[u32],
 ) -> Ran {
     match kind {
-        kinds::WORD => stepped(simulator::step(machine, word, data, tags, history)),
+        kinds::WORD => simulator::step(machine, word, data, tags, history).as_run(),
         kinds::RUN => simulator::run(machine, list, data, tags, history),
-        _ => stepped(simulator::step_back(machine, data, tags, history)),
+        _ => simulator::step_back(machine, data, tags, history).as_run(),
     }
 }
 

@@ -46,6 +46,21 @@ pub struct Ran {
     pub machine: Machine,
 }
 
+impl Answer {
+    // A step or a step back among runs: it counts no words.
+    pub fn as_run(self) -> Ran
+        ensures { λ r. ⌜ (r .code ≡ self .code) × (r .count ≡ 0) × (r .machine ≡ self .machine) ⌝ }
+    {
+        let code = self.code;
+        let machine = self.machine;
+        Ran {
+            code: code,
+            count: 0,
+            machine: machine,
+        }
+    }
+}
+
 // A word's refusal, or the status and the cursor after it.
 pub(crate) enum Taken {
     Refused(Code),

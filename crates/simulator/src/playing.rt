@@ -7,7 +7,6 @@ ghost use Rattle.simulator.specs.Calls.{call, left};
 ghost use Rattle.simulator.specs.Playing.{AsPlain, allTaken, callOf, playCode, playNumber, playOf, played, wordsTaken};
 ghost use Rattle.simulator.specs.Simulation.{simulation};
 ghost use Rattle.simulator.specs.Steps.{simulator};
-use super::Answer;
 use super::Ran;
 use super::run;
 use super::step;
@@ -91,19 +90,6 @@ fn judge(list: &[usize], words: usize, codes: usize, counts: usize) -> PlayCode
     PlayCode::Done
 }
 
-// A step or a step back as a run, which has done no words.
-fn uncounted(answer: Answer) -> Ran
-    ensures { λ r. ⌜ (r .code ≡ answer .code) × (r .count ≡ 0) × (r .machine ≡ answer .machine) ⌝ }
-{
-    let code = answer.code;
-    let machine = answer.machine;
-    Ran {
-        code: code,
-        count: 0,
-        machine: machine,
-    }
-}
-
 // Makes the call of a number, which takes its words from the first on.
 fn make_call(
     machine: Machine,
@@ -117,8 +103,8 @@ fn make_call(
     ensures { λ r. ⌜ left (r .code) (r .count) (simulation (r .machine) (now (bytes .exit)) (now (tags .exit)) (now (history .exit))) ≡ call simulator (simulation machine (now (bytes .entry)) (now (tags .entry)) (now (history .entry))) (callOf number (now (words .entry))) ⌝ }
 {
     match number {
-        BACK => uncounted(step_back(machine, bytes, tags, history)),
-        STEP => uncounted(step(machine, words[0], bytes, tags, history)),
+        BACK => step_back(machine, bytes, tags, history).as_run(),
+        STEP => step(machine, words[0], bytes, tags, history).as_run(),
         _ => {
             let n = number - RUN;
             run(machine, &words[..n], bytes, tags, history)
