@@ -29,33 +29,27 @@ use random::Random;
 pub const PLAYED_LISTS: &str = "played lists";
 pub const LONGEST_LISTS: &str = "longest played lists";
 
-/// The kinds of scripts that make calls one by one, and of how many scripts
-/// one is played in both ways: of those whose lists have mostly one call, not
-/// all.
-const OF_CALLS: [(&str, u64); 13] = [
-    ("rows of the paper", 1),
-    ("rules of the setup", 1),
-    ("random walks", 3),
-    ("largest memory", 3),
-    ("near words", 1),
-    ("lists of calls", 1),
-    ("cursors", 1),
-    ("runs", 1),
-    ("longest runs", 1),
-    ("damaged records", 1),
-    ("made-up histories", 1),
-    ("reach", 1),
-    ("kept bytes", 1),
+/// The kinds of scripts that make calls one by one.
+const OF_CALLS: [&str; 13] = [
+    "rows of the paper",
+    "rules of the setup",
+    "random walks",
+    "largest memory",
+    "near words",
+    "lists of calls",
+    "cursors",
+    "runs",
+    "longest runs",
+    "damaged records",
+    "made-up histories",
+    "reach",
+    "kept bytes",
 ];
 
-/// The scripts of calls that are played in both ways.
+/// The scripts of calls, each played in both ways.
 pub fn pairs(times: u64) -> Vec<Job<Pair>> {
     let mut jobs = jobs(times);
-    let both_ways = |job: &Job<Script>| {
-        let mut kinds = OF_CALLS.iter();
-        kinds.any(|&(kind, one_in)| kind == job.kind && job.number.is_multiple_of(one_in))
-    };
-    jobs.retain(both_ways);
+    jobs.retain(|job| OF_CALLS.contains(&job.kind));
     let pair = |job: Job<Script>| job.map(|script| Pair::of(&script));
     jobs.into_iter().map(pair).collect()
 }
@@ -127,13 +121,12 @@ mod tests {
     #[test]
     fn every_kind_that_makes_calls_is_played_in_both_ways() {
         let (scripts, pairs) = (jobs(2), pairs(2));
-        for (kind, one_in) in OF_CALLS {
-            let wanted = count(&scripts, kind) / one_in;
-            assert!(wanted > 0, "{kind}");
-            assert_eq!(count(&pairs, kind), wanted, "{kind}");
+        for kind in OF_CALLS {
+            assert!(count(&pairs, kind) > 0, "{kind}");
+            assert_eq!(count(&pairs, kind), count(&scripts, kind), "{kind}");
         }
         for job in jobs(1) {
-            let known = OF_CALLS.iter().any(|&(kind, _)| kind == job.kind);
+            let known = OF_CALLS.contains(&job.kind);
             let other = [PLAYED_LISTS, LONGEST_LISTS, "bad scripts"].contains(&job.kind);
             if !known && !other {
                 let script = job.made(1);
