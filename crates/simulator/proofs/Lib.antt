@@ -3,6 +3,7 @@ pub mod Alike
 pub mod AsPlain
 pub mod Cursors
 pub mod Demand3
+pub mod EveryList
 pub mod Kept
 pub mod Lists
 pub mod Ring

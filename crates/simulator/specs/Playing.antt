@@ -2,7 +2,7 @@
 -- machine", has the list of calls; the numbers and the two refusals are of our own making (docs/DECISIONS.md).
 use Prim.Native.Nat.{ℕ, _+_, _-_}
 use mathlib.Core.Bool.{Bool, true, cond, _||_}
-use mathlib.Core.List.{List, [], _∷_, map}
+use mathlib.Core.List.{List, [], _∷_, _++_, map}
 use mathlib.Core.Path.{_≡_}
 use lib.Dec.{eqb, ltb}
 use lib.ListN.{length, take, drop, getD}
@@ -32,6 +32,25 @@ listed (n ∷ ns) words = callOf n words ∷ listed ns (drop (wordsTaken n) word
 unfoldable pub allTaken : List ℕ → ℕ
 allTaken [] = 0
 allTaken (n ∷ ns) = wordsTaken n + allTaken ns
+
+-- a call's number, and the words that it takes
+abbrev pub numberOf : Call → ℕ
+numberOf (stepCall word) = 1
+numberOf (runCall words) = 2 + length words
+numberOf backCall = 0
+
+abbrev pub wordsOf : Call → List ℕ
+wordsOf (stepCall word) = word ∷ []
+wordsOf (runCall words) = words
+wordsOf backCall = []
+
+abbrev pub allWords : List Call → List ℕ
+allWords [] = []
+allWords (c ∷ cs) = wordsOf c ++ allWords cs
+
+-- every list of calls can be given so, with just the words that it takes
+unfoldable pub EveryListIsListed : Type 0
+EveryListIsListed = (list : List Call) → (listed (map numberOf list) (allWords list) ≡ list) × (allTaken (map numberOf list) ≡ length (allWords list))
 
 abbrev pub playNumber : PlayCode → ℕ
 playNumber Done = 0
