@@ -156,9 +156,9 @@ fn call(
     list: &[u32],
 ) -> Ran {
     match kind {
-        kinds::WORD => simulator::step(machine, word, data, tags, history).as_run(),
+        kinds::WORD => simulator::step(machine, word, data, tags, history).uncounted(),
         kinds::RUN => simulator::run(machine, list, data, tags, history),
-        _ => simulator::step_back(machine, data, tags, history).as_run(),
+        _ => simulator::step_back(machine, data, tags, history).uncounted(),
     }
 }
 

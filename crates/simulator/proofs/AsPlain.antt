@@ -4,12 +4,13 @@ use mathlib.Core.Bool.{Bool, true, false, cond}
 use mathlib.Core.List.{List}
 use mathlib.Core.Path.{_≡_, refl, ap, _∙_}
 use lib.ListN.{length}
+use lib.Seq.{sets}
 use Rattle.machine.specs.State.{Typed}
 use Rattle.simulator.specs.declared.playing.PlayCode.{PlayCode}
-use Rattle.simulator.specs.Calls.{Call, calls}
+use Rattle.simulator.specs.Calls.{Call, Ended, calls}
 use Rattle.simulator.specs.Demand3.{Agree, Demand3, plainBeside, plainStart}
 use Rattle.simulator.specs.PlainMachine.{Plain}
-use Rattle.simulator.specs.Playing.{AsPlain, Played, isPlayed, listed, onState, playCode, playOf, played, writtenFrom}
+use Rattle.simulator.specs.Playing.{AsPlain, Played, codesOf, countsOf, isPlayed, listed, onState, playCode, playOf, played}
 use Rattle.simulator.specs.Simulation.{Simulation}
 use Rattle.simulator.specs.Steps.{simulator}
 use Rattle.simulator.proofs.Demand3.{demand3}
@@ -29,8 +30,11 @@ module _ (start : Simulation) (numbers words codes counts : List ℕ) where
       agree : Agree (calls simulator start list) (calls (plainBeside start) (plainStart start) list)
       agree = demand3 start typed formed empty list
 
+      written : {X : Type 0} → Ended X → Played X
+      written e = played code (length numbers) (sets codes 0 (codesOf (e .answers))) (sets counts 0 (countsOf (e .answers))) (e .final)
+
       same : (b : Bool)
-          → onState (λ (s : Simulation). s .state) (cond b (writtenFrom 0 (length numbers) codes counts (calls simulator start list)) (played code 0 codes counts start))
-          ≡ onState (λ (plain : Plain). plain .state) (cond b (writtenFrom 0 (length numbers) codes counts (calls (plainBeside start) (plainStart start) list)) (played code 0 codes counts (plainStart start)))
-      same true = λ i. writtenFrom 0 (length numbers) codes counts (record { answers = agree .answers i; final = agree .state i })
+          → onState (λ (s : Simulation). s .state) (cond b (written (calls simulator start list)) (played code 0 codes counts start))
+          ≡ onState (λ (plain : Plain). plain .state) (cond b (written (calls (plainBeside start) (plainStart start) list)) (played code 0 codes counts (plainStart start)))
+      same true = λ i. written (record { answers = agree .answers i; final = agree .state i })
       same false = refl

@@ -1,13 +1,16 @@
 -- Every list of calls can be given as numbers and words. Assumes nothing.
 use Prim.Native.Nat.{ℕ, _+_, _-_}
+use mathlib.Core.Bool.{false}
 use mathlib.Core.List.{List, [], _∷_, _++_, map}
 use mathlib.Core.Path.{_≡_, refl, ap}
 use native.Mathlib.Omega.{arith}
-use borrow.Author.Tests.{ne-eqb}
-use lib.ListN.{length, drop, length-append}
+use native.Mathlib.Nat.{le-refl}
+use borrow.Author.Tests.{le-ltb, ne-eqb}
+use lib.Dec.{ltb}
+use lib.ListN.{length, drop, length-append, length-map}
 use lib.Seq.{take-append-seam, drop-append-seam}
 use Rattle.simulator.specs.Calls.{Call, stepCall, runCall, backCall}
-use Rattle.simulator.specs.Playing.{EveryListIsListed, allTaken, allWords, callOf, listed, numberOf, wordsOf, wordsTaken}
+use Rattle.simulator.specs.Playing.{EveryListIsPlayed, allTaken, allWords, callOf, listed, numberOf, playCode, wordsOf, wordsTaken}
 
 -- a call's number, on its words with others behind them
 record Listed (c : Call) (rest : List ℕ) : Type 0 where
@@ -29,10 +32,22 @@ one-listed (runCall words) rest =
     }
 one-listed backCall rest = record { itself = refl; behind = refl; all = refl }
 
-pub every-list-is-listed : EveryListIsListed
-unfolding EveryListIsListed listed allTaken
-every-list-is-listed [] = (refl, refl)
-every-list-is-listed (c ∷ cs) =
+all-listed : (list : List Call) → listed (map numberOf list) (allWords list) ≡ list
+unfolding listed
+all-listed [] = refl
+all-listed (c ∷ cs) =
     let one = one-listed c (allWords cs) in
-    let (others, words) = every-list-is-listed cs in
-    (rw (one .itself, one .behind, others), rw (length-append, one .all, words))
+    rw (one .itself, one .behind, all-listed cs)
+
+all-taken : (list : List Call) → allTaken (map numberOf list) ≡ length (allWords list)
+unfolding allTaken
+all-taken [] = refl
+all-taken (c ∷ cs) = rw (length-append, one-listed c (allWords cs) .all, all-taken cs)
+
+enough : (n : ℕ) → ltb n n ≡ false
+enough n = le-ltb n n (le-refl n)
+
+pub every-list-is-played : EveryListIsPlayed
+unfolding EveryListIsPlayed playCode
+every-list-is-played list =
+    (all-listed list, rw (length-map, all-taken list, enough (length list), enough (length (allWords list))))

@@ -8,12 +8,12 @@ use native.Mathlib.Omega.{arith}
 use borrow.Author.Tests.{ltb-false, ne-eqb}
 use lib.Dec.{ltb}
 use lib.ListN.{length, drop, getD, set, length-drop, drop-of-length-le}
-use lib.Seq.{drop-cons, drop-drop}
+use lib.Seq.{drop-cons, drop-drop, sets}
 use Rattle.machine.specs.Codes.{codeNumber}
 use Rattle.simulator.specs.declared.playing.PlayCode.{PlayCode}
 use Rattle.simulator.specs.declared.playing.PlayCode.the-variants.{Done, NoRoom, NoWords}
-use Rattle.simulator.specs.Calls.{Left, call, calls}
-use Rattle.simulator.specs.Playing.{Played, allTaken, callOf, listed, playCode, playNumber, playOf, played, wordsTaken, writtenFrom}
+use Rattle.simulator.specs.Calls.{Ended, Left, call, calls}
+use Rattle.simulator.specs.Playing.{Played, allTaken, callOf, codesOf, countsOf, listed, playCode, playNumber, playOf, played, wordsTaken}
 use Rattle.simulator.specs.Simulation.{Simulation}
 use Rattle.simulator.specs.Steps.{simulator}
 
@@ -27,11 +27,15 @@ module _ (list : List ℕ) (i : ℕ) where
   unfolding allTaken
   taken-end h = rw (drop-of-length-le list h)
 
+-- the answers to what is left of a list, written from place i on
+abbrev pub writtenFrom : ℕ → ℕ → List ℕ → List ℕ → Ended Simulation → Played Simulation
+writtenFrom i count codes counts e = played Done count (sets codes i (codesOf (e .answers))) (sets counts i (countsOf (e .answers))) (e .final)
+
 module _ (list words : List ℕ) (start : Simulation) (codes₀ counts₀ : List ℕ) where
   abbrev whole : Played Simulation
   whole = writtenFrom 0 (length list) codes₀ counts₀ (calls simulator start (listed list words))
 
-  -- before the call at i, whose words begin at `at`: what is left of the list, written from i on, is the list
+  -- before the call at i, whose words begin at `at`: playing what is left gives what the whole list gives
   pub record Reached (i at : ℕ) (s : Simulation) (codes counts : List ℕ) : Type 0 where
     pub enough : at + allTaken (drop i list) ≤ length words
     pub rest : writtenFrom i (length list) codes counts (calls simulator s (listed (drop i list) (drop at words))) ≡ whole

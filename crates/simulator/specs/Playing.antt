@@ -48,10 +48,6 @@ abbrev pub allWords : List Call → List ℕ
 allWords [] = []
 allWords (c ∷ cs) = wordsOf c ++ allWords cs
 
--- every list of calls can be given so, with just the words that it takes
-unfoldable pub EveryListIsListed : Type 0
-EveryListIsListed = (list : List Call) → (listed (map numberOf list) (allWords list) ≡ list) × (allTaken (map numberOf list) ≡ length (allWords list))
-
 abbrev pub playNumber : PlayCode → ℕ
 playNumber Done = 0
 playNumber NoRoom = 10
@@ -60,11 +56,18 @@ playNumber NoWords = 15
 abbrev pub isPlayed : PlayCode → Bool
 isPlayed code = eqb (playNumber code) 0
 
--- NOROOM if there are fewer places for codes or fewer for counts than calls, NOWORDS if the calls take more words than there are; the
--- lower if both apply
+-- by how many words, places for codes and places for counts are lent: NOROOM if there are fewer places for codes or fewer for counts
+-- than calls, NOWORDS if the calls take more words than there are; the lower if both apply
 unfoldable pub playCode : List ℕ → ℕ → ℕ → ℕ → PlayCode
 playCode numbers words codes counts =
     cond (ltb codes (length numbers) || ltb counts (length numbers)) NoRoom (cond (ltb words (allTaken numbers)) NoWords Done)
+
+-- every list of calls can be given so, and with just its words and a place for each call it is played
+unfoldable pub EveryListIsPlayed : Type 0
+EveryListIsPlayed =
+    (list : List Call)
+    → (listed (map numberOf list) (allWords list) ≡ list)
+    × (playCode (map numberOf list) (length (allWords list)) (length list) (length list) ≡ Done)
 
 -- the code of the list, how many of its calls were played, the places for codes and for counts, and the machine after it
 pub record Played (X : Type 0) : Type 0 where
@@ -77,17 +80,20 @@ pub record Played (X : Type 0) : Type 0 where
 abbrev pub played : {X : Type 0} → PlayCode → ℕ → List ℕ → List ℕ → X → Played X
 played code count codes counts after = record { code = code; count = count; codes = codes; counts = counts; after = after }
 
--- the answers' codes and counts are written from place i on; the places behind them stay
-abbrev pub writtenFrom : {X : Type 0} → ℕ → ℕ → List ℕ → List ℕ → Ended X → Played X
-writtenFrom i count codes counts e =
-    played Done count (sets codes i (map (λ (a : Answer). codeNumber (a .code)) (e .answers)))
-    (sets counts i (map (λ (a : Answer). a .count) (e .answers))) (e .final)
+abbrev pub codesOf : List Answer → List ℕ
+codesOf = map (λ (a : Answer). codeNumber (a .code))
 
--- a list is played whole, or refused and nothing changes
+abbrev pub countsOf : List Answer → List ℕ
+countsOf = map (λ (a : Answer). a .count)
+
+-- A list is refused, and nothing changes; or it is played whole, and the codes and counts of its calls are written from the first place
+-- on, the places behind them staying as they are.
 unfoldable pub playOf : {X : Type 0} → Machine X → X → List ℕ → List ℕ → List ℕ → List ℕ → Played X
-playOf m start numbers words codes counts =
+playOf {X} m start numbers words codes counts =
     let code : PlayCode = playCode numbers (length words) (length codes) (length counts) in
-    cond (isPlayed code) (writtenFrom 0 (length numbers) codes counts (calls m start (listed numbers words)))
+    let e : Ended X = calls m start (listed numbers words) in
+    cond (isPlayed code)
+    (played code (length numbers) (sets codes 0 (codesOf (e .answers))) (sets counts 0 (countsOf (e .answers))) (e .final))
     (played code 0 codes counts start)
 
 -- what is left of a play without the history: all that is compared with the plain machine

@@ -1,4 +1,4 @@
-// The simulator: steps, runs and steps back on a machine with history.
+// The simulator: steps, runs, steps back, and lists of them, on a machine with history.
 // The machine goes in and out by value; its data bytes, tag bytes and history words are lent.
 ghost use mathlib.Core.Bool.{true};
 ghost use mathlib.Core.Path.{_≡_};
@@ -47,8 +47,8 @@ pub struct Ran {
 }
 
 impl Answer {
-    // A step or a step back among runs: it counts no words.
-    pub fn as_run(self) -> Ran
+    // A step or a step back among runs: its count is 0, done or not.
+    pub fn uncounted(self) -> Ran
         ensures { λ r. ⌜ (r .code ≡ self .code) × (r .count ≡ 0) × (r .machine ≡ self .machine) ⌝ }
     {
         let code = self.code;

@@ -47,24 +47,24 @@ pub struct Played {
 }
 
 // How many words the call of a number takes.
-fn words_taken(call: usize) -> usize
-    ensures { λ r. ⌜ r ≡ wordsTaken call ⌝ }
+fn words_taken(number: usize) -> usize
+    ensures { λ r. ⌜ r ≡ wordsTaken number ⌝ }
 {
-    match call {
+    match number {
         BACK => 0,
         STEP => 1,
-        _ => call - RUN,
+        _ => number - RUN,
     }
 }
 
 // Whether so many words are too few for the calls.
-fn run_out(list: &[usize], words: usize) -> bool
-    ensures { λ r. ⌜ r ≡ ltb words (allTaken (now (list .entry))) ⌝ }
+fn too_few_words(calls: &[usize], words: usize) -> bool
+    ensures { λ r. ⌜ r ≡ ltb words (allTaken (now (calls .entry))) ⌝ }
 {
     let mut rest = words;
     let mut passed = 0;
-    while passed < list.len() {
-        let taken = words_taken(list[passed]);
+    while passed < calls.len() {
+        let taken = words_taken(calls[passed]);
         if rest < taken {
             return true;
         }
@@ -75,16 +75,16 @@ fn run_out(list: &[usize], words: usize) -> bool
 }
 
 // The code of a list, by what it is lent.
-fn judge(list: &[usize], words: usize, codes: usize, counts: usize) -> PlayCode
-    ensures { λ r. ⌜ r ≡ playCode (now (list .entry)) words codes counts ⌝ }
+fn list_code(calls: &[usize], words: usize, codes: usize, counts: usize) -> PlayCode
+    ensures { λ r. ⌜ r ≡ playCode (now (calls .entry)) words codes counts ⌝ }
 {
-    if codes < list.len() {
+    if codes < calls.len() {
         return PlayCode::NoRoom;
     }
-    if counts < list.len() {
+    if counts < calls.len() {
         return PlayCode::NoRoom;
     }
-    if run_out(list, words) {
+    if too_few_words(calls, words) {
         return PlayCode::NoWords;
     }
     PlayCode::Done
@@ -103,8 +103,8 @@ fn make_call(
     ensures { λ r. ⌜ left (r .code) (r .count) (simulation (r .machine) (now (bytes .exit)) (now (tags .exit)) (now (history .exit))) ≡ call simulator (simulation machine (now (bytes .entry)) (now (tags .entry)) (now (history .entry))) (callOf number (now (words .entry))) ⌝ }
 {
     match number {
-        BACK => step_back(machine, bytes, tags, history).as_run(),
-        STEP => step(machine, words[0], bytes, tags, history).as_run(),
+        BACK => step_back(machine, bytes, tags, history).uncounted(),
+        STEP => step(machine, words[0], bytes, tags, history).uncounted(),
         _ => {
             let n = number - RUN;
             run(machine, &words[..n], bytes, tags, history)
@@ -118,9 +118,10 @@ fn seed_is_short(seed: u16)
 {}
 
 // Plays a list of calls, each with the machine and the buffers as the last one left them. Code and count of the call at i go to place i.
+// A list that lacks places or words is refused whole.
 pub fn play(
     machine: Machine,
-    list: &[usize],
+    calls: &[usize],
     words: &[u32],
     bytes: &mut [u8],
     tags: &mut [u8],
@@ -128,11 +129,11 @@ pub fn play(
     codes: &mut [u32],
     counts: &mut [usize],
 ) -> Played
-    ensures { λ r. ⌜ played (r .code) (r .count) (now (codes .exit)) (now (counts .exit)) (simulation (r .machine) (now (bytes .exit)) (now (tags .exit)) (now (history .exit))) ≡ playOf simulator (simulation machine (now (bytes .entry)) (now (tags .entry)) (now (history .entry))) (now (list .entry)) (now (words .entry)) (now (codes .entry)) (now (counts .entry)) ⌝ }
-    ensures { λ r. ⌜ AsPlain (simulation machine (now (bytes .entry)) (now (tags .entry)) (now (history .entry))) (now (list .entry)) (now (words .entry)) (now (codes .entry)) (now (counts .entry)) (played (r .code) (r .count) (now (codes .exit)) (now (counts .exit)) (simulation (r .machine) (now (bytes .exit)) (now (tags .exit)) (now (history .exit)))) ⌝ }
+    ensures { λ r. ⌜ played (r .code) (r .count) (now (codes .exit)) (now (counts .exit)) (simulation (r .machine) (now (bytes .exit)) (now (tags .exit)) (now (history .exit))) ≡ playOf simulator (simulation machine (now (bytes .entry)) (now (tags .entry)) (now (history .entry))) (now (calls .entry)) (now (words .entry)) (now (codes .entry)) (now (counts .entry)) ⌝ }
+    ensures { λ r. ⌜ AsPlain (simulation machine (now (bytes .entry)) (now (tags .entry)) (now (history .entry))) (now (calls .entry)) (now (words .entry)) (now (codes .entry)) (now (counts .entry)) (played (r .code) (r .count) (now (codes .exit)) (now (counts .exit)) (simulation (r .machine) (now (bytes .exit)) (now (tags .exit)) (now (history .exit)))) ⌝ }
 {
     seed_is_short(machine.registers.status.seed);
-    let code = judge(list, words.len(), codes.len(), counts.len());
+    let code = list_code(calls, words.len(), codes.len(), counts.len());
     if code.number() != 0 {
         return Played {
             code: code,
@@ -143,8 +144,8 @@ pub fn play(
     let mut current = machine;
     let mut at = 0;
     let mut i = 0;
-    while i < list.len() {
-        let number = list[i];
+    while i < calls.len() {
+        let number = calls[i];
         let ran = make_call(current, number, &words[at..], bytes, tags, history);
         let answer = ran.code;
         let after = ran.machine;
@@ -156,7 +157,7 @@ pub fn play(
     }
     Played {
         code: code,
-        count: list.len(),
+        count: calls.len(),
         machine: current,
     }
 }

@@ -3,7 +3,7 @@ use borrow.Author.Needs.{needs}
 use borrow.Author.Tests.{ne-eqb}
 use native.Mathlib.Omega.{arith}
 use lib.ListN.{length-take}
-use Rattle.simulator.specs.Calls.{call, left}
+use Rattle.simulator.specs.Calls.{call}
 use Rattle.simulator.specs.Playing.{callOf, wordsTaken}
 use Rattle.simulator.proofs.playing.make_call.Statement.{statement}
 use Rattle.simulator.proofs.playing.make_call.Tie as tie
@@ -11,8 +11,8 @@ use Rattle.simulator.proofs.playing.make_call.Tie as tie
 step-back-requires : tie.Need-step-back-requires
 step-back-requires c κs = search needs
 
-as-run-requires : tie.Need-as-run-requires
-as-run-requires c κs = search needs
+uncounted-requires : tie.Need-uncounted-requires
+uncounted-requires c κs = search needs
 
 shared-slice-read-step : tie.Need-shared-slice-read-step
 unfolding wordsTaken
@@ -23,8 +23,8 @@ shared-slice-read-step c =
 step-requires : tie.Need-step-requires
 step-requires c κs = search needs
 
-as-run-requires-2 : tie.Need-as-run-requires-2
-as-run-requires-2 c κs = search needs
+uncounted-requires-2 : tie.Need-uncounted-requires-2
+uncounted-requires-2 c κs = search needs
 
 sub-n : tie.Need-sub-n
 sub-n c = search needs
@@ -53,7 +53,7 @@ unfolding call callOf
 returns c =
     let stepped = c .before .before .before .before .before in
     let test = stepped .before .before .before .before in
-    let same = c .as-run .ensures in
+    let same = c .uncounted .ensures in
     rw (test .match .keys1, same .0, same .1, same .2) (stepped .step-back .ensures)
 
 same-length-4 : tie.Need-same-length-4
@@ -70,7 +70,7 @@ unfolding call callOf
 returns-2 c =
     let stepped = c .before .before .before .before .before .before .before in
     let test = stepped .before .before .before .before .before in
-    let same = c .as-run2 .ensures in
+    let same = c .uncounted2 .ensures in
     rw (test .match .keys2, same .0, same .1, same .2) (stepped .step .ensures)
 
 same-length-7 : tie.Need-same-length-7
@@ -94,10 +94,10 @@ make-call-spec =
     tie.close
     (tie.spec
     step-back-requires
-    as-run-requires
+    uncounted-requires
     shared-slice-read-step
     step-requires
-    as-run-requires-2
+    uncounted-requires-2
     sub-n
     slice-aggregate-run
     run-requires

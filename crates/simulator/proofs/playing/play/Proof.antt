@@ -1,5 +1,5 @@
--- `simulator::playing::play` meets its contract: both promises. The loop's invariant: what is left of the list is the list, with the
--- answers written up to the call. The measure is the calls left. Assumes nothing.
+-- `simulator::playing::play` meets its contract: both promises. The loop's invariant: playing what is left, behind the answers
+-- written so far, gives what the whole list gives. The measure is the calls left. Assumes nothing.
 use borrow.Author.Needs.{needs}
 use Prim.Native.Nat.{_-_, _<_}
 use mathlib.Core.Path.{_≡_, refl, sym, _∙_}
@@ -33,8 +33,8 @@ typed c =
     }
 
 -- the list was not refused
-lent : (c : tie.Else1 Inv-loop μ-loop) → let a = c .before .before .before .before .before .before .before .before .before .before .before .args in Lent (a .list .now) (length (a .words .now)) (length (a .codes .now)) (length (a .counts .now))
-lent c = not-refused _ _ _ _ (sym (c .before .before .judge .ensures) ∙ is-done _ (sym (c .before .number .ensures) ∙ c .if1 .left))
+lent : (c : tie.Else1 Inv-loop μ-loop) → let a = c .before .before .before .before .before .before .before .before .before .before .before .args in Lent (a .calls .now) (length (a .words .now)) (length (a .codes .now)) (length (a .counts .now))
+lent c = not-refused _ _ _ _ (sym (c .before .before .list-code .ensures) ∙ is-done _ (sym (c .before .number .ensures) ∙ c .if1 .left))
 
 -- so there is room for the answer of the call at i
 room : (c : tie.In-loop Inv-loop μ-loop) → let here = c .before .loop in (here .i < length (here .codes)) × (here .i < length (here .counts))
@@ -46,8 +46,8 @@ room c =
 seed-is-short-requires : tie.Need-seed-is-short-requires Inv-loop μ-loop
 seed-is-short-requires c κs = search needs
 
-judge-requires : tie.Need-judge-requires Inv-loop μ-loop
-judge-requires c κs = search needs
+list-code-requires : tie.Need-list-code-requires Inv-loop μ-loop
+list-code-requires c κs = search needs
 
 number-requires : tie.Need-number-requires Inv-loop μ-loop
 number-requires c κs = search needs
@@ -55,7 +55,7 @@ number-requires c κs = search needs
 returns : tie.Need-returns Inv-loop μ-loop
 returns c =
     let judged = c .before .before in
-    let p = when-refused _ _ _ _ _ _ (judged .judge .ensures) (λ done. c .if1 .taken (c .before .number .ensures ∙ done)) in
+    let p = when-refused _ _ _ _ _ _ (judged .list-code .ensures) (λ done. c .if1 .taken (c .before .number .ensures ∙ done)) in
     (p, as-plain _ _ _ _ _ _ (typed (judged .before)) p)
 
 loop-holds : tie.Need-loop-holds Inv-loop μ-loop
@@ -108,7 +108,7 @@ add-at c =
     let test = c .before .before .before .before .before .before .before .before .before .before .before .before .before .before .before in
     let loop = test .before in
     let start = loop .before .before .before .before .before .before .before .before .before .before .before .before in
-    let here = taken-on (start .args .list .now) (loop .loop .i) (test .loop-test .taken) in
+    let here = taken-on (start .args .calls .now) (loop .loop .i) (test .loop-test .taken) in
     omega (arith, c .words-taken .ensures, start .good, loop .loop .inv .5 .enough, here)
 
 add-i : tie.Need-add-i Inv-loop μ-loop
@@ -156,7 +156,7 @@ returns-2 c =
     let test = loop .before in
     let judged = test .before .before in
     let ended = at-end _ _ _ _ _ _ _ _ _ _ (inv .5) (c .loop-test .left) in
-    let p = when-done _ _ _ _ _ _ (judged .judge .ensures) (sym (test .before .number .ensures) ∙ test .if1 .left) _ ended in
+    let p = when-done _ _ _ _ _ _ (judged .list-code .ensures) (sym (test .before .number .ensures) ∙ test .if1 .left) _ ended in
     (p, as-plain _ _ _ _ _ _ (typed (judged .before)) p)
 
 pub play-spec : {M : Type 1} → statement M
@@ -166,7 +166,7 @@ play-spec =
     Inv-loop
     μ-loop
     seed-is-short-requires
-    judge-requires
+    list-code-requires
     number-requires
     returns
     loop-holds

@@ -1,4 +1,4 @@
--- `simulator::playing::run_out` meets its contract. The loop's invariant: the words taken so far are those of the calls passed. The
+-- `simulator::playing::too_few_words` meets its contract. The loop's invariant: the words taken so far are those of the calls passed. The
 -- measure is the calls left. Assumes nothing.
 use borrow.Author.Needs.{needs}
 use borrow.Author.Tests.{lt-ltb, le-ltb}
@@ -8,8 +8,8 @@ use native.Mathlib.Omega.{arith}
 use lib.ListN.{length, drop}
 use Rattle.simulator.specs.Playing.{allTaken}
 use Rattle.simulator.proofs.Lists.{taken-on, taken-end}
-use Rattle.simulator.proofs.playing.run_out.Statement.{statement}
-use Rattle.simulator.proofs.playing.run_out.Tie as tie
+use Rattle.simulator.proofs.playing.too_few_words.Statement.{statement}
+use Rattle.simulator.proofs.playing.too_few_words.Tie as tie
 
 abbrev Inv-loop : tie.InvT-loop
 Inv-loop list words rest₀ passed₀ rest passed = rest + allTaken list ≡ words + allTaken (drop passed list)
@@ -35,7 +35,7 @@ returns c =
     let test = taken .before .before in
     let loop = test .before in
     let a = loop .before .before .args in
-    let list = a .list .now in
+    let list = a .calls .now in
     sym (lt-ltb (a .words) (allTaken list) (omega (arith, taken .words-taken .ensures, loop .loop .inv, taken-on list (loop .loop .passed) (test .loop-test .taken))))
 
 add-passed : tie.Need-add-passed Inv-loop μ-loop
@@ -49,18 +49,18 @@ loop-again c =
     let taken = c .before in
     let test = taken .before .before in
     let loop = test .before in
-    let list = loop .before .before .args .list .now in
+    let list = loop .before .before .args .calls .now in
     omega (arith, taken .words-taken .ensures, loop .loop .inv, taken-on list (loop .loop .passed) (test .loop-test .taken))
 
 returns-2 : tie.Need-returns-2 Inv-loop μ-loop
 returns-2 c =
     let loop = c .before in
     let a = loop .before .before .args in
-    let list = a .list .now in
+    let list = a .calls .now in
     sym (le-ltb (a .words) (allTaken list) (omega (arith, loop .loop .inv, taken-end list (loop .loop .passed) (c .loop-test .left))))
 
-pub run-out-spec : {M : Type 1} → statement M
-run-out-spec =
+pub too-few-words-spec : {M : Type 1} → statement M
+too-few-words-spec =
     tie.close
     (tie.spec
     Inv-loop
