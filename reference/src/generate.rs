@@ -131,7 +131,8 @@ mod tests {
             if !known && !other {
                 let script = job.made(1);
                 let mut lines = script.text.split(|&byte| byte == b'\n');
-                let call = lines.find(|line| line == b"back" || line.starts_with(b"word="));
+                let calls = [b"back".as_slice(), b"word=", b"run="];
+                let call = lines.find(|line| calls.iter().any(|key| line.starts_with(key)));
                 assert_eq!(call, None, "{}", job.kind);
             }
         }

@@ -1,5 +1,5 @@
-// Numbers brought into a range. No line that is played and no row of the table has a number that these change; without them
-// that would have to be proved.
+// Numbers brought into a range. Of the lines that are played only `lend` has numbers that these change, and no row of the table
+// has one; without them that would have to be proved.
 ghost use Prim.Native.Nat.{_≤_};
 
 pub(crate) fn at_most(n: usize, most: usize) -> usize

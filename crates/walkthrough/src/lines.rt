@@ -1,6 +1,7 @@
 // The lines that the walkthrough writes to standard output.
 use machine::Code;
 use machine::Machine;
+use simulator::PlayCode;
 
 fn wide(b: u8) -> u64 {
     b as u64
@@ -51,15 +52,17 @@ pub(crate) fn write_place(machine: Machine, tag: u8) {
     io::write_all(1, &out);
 }
 
-// A list of calls: how many were played, the code of each, and X0 after them.
-pub(crate) fn write_list(count: usize, codes: &[u32; 8], machine: Machine) {
-    let mut out = *b"list, 0 calls played: codes 0 0 0 0 0 0 0 0, x0 = 0000000000000000\n";
+// A list of calls: its code, how many calls were played, the code of each, and X0 after them.
+pub(crate) fn write_list(code: PlayCode, count: usize, codes: &[u32; 8], machine: Machine) {
+    let mut out =
+        *b"list: code 0, 0 calls played with codes 0 0 0 0 0 0 0 0, x0 = 0000000000000000\n";
     let x = machine.registers.x;
-    text::put_hex(&mut out, 6, 1, count as u64);
-    text::put_hex(&mut out, 50, 16, x[0]);
+    text::put_hex(&mut out, 11, 1, long(code.number()));
+    text::put_hex(&mut out, 14, 1, count as u64);
+    text::put_hex(&mut out, 62, 16, x[0]);
     let mut i = 0;
     while i < 8 {
-        text::put_hex(&mut out, 28 + 2 * i, 1, long(codes[i]));
+        text::put_hex(&mut out, 40 + 2 * i, 1, long(codes[i]));
         i += 1;
     }
     io::write_all(1, &out);

@@ -108,7 +108,7 @@ fn back_to_block(
     machine
 }
 
-// The same calls up to there, as one list, on memories and a history of their own.
+// The same calls up to where X0 left its block, as one list, on memories and a history of their own.
 fn in_one_list() {
     let word = tag_store(TagStoreOp::Stg, Mode::Post, 0, 16);
     let calls = [RUN + 2, STEP, STEP, STEP, STEP, STEP, BACK, BACK];
@@ -136,8 +136,9 @@ fn in_one_list() {
         &mut codes,
         &mut counts,
     );
+    let code = played.code;
     let after = played.machine;
-    lines::write_list(played.count, &codes, after);
+    lines::write_list(code, played.count, &codes, after);
 }
 
 // Four granules and a history of four slots.
