@@ -1,5 +1,5 @@
 -- A list of calls given as numbers, beside the words that they take in order, and what playing it answers. Document 01, "The plain
--- machine", has the list of calls; the numbers and the two refusals are of our own making (docs/DECISIONS.md).
+-- machine", has the list of calls; the numbers and the two refusals are no part of it (docs/DECISIONS.md, "Lists of calls").
 use Prim.Native.Nat.{ℕ, _+_, _-_}
 use mathlib.Core.Bool.{Bool, true, cond, _||_}
 use mathlib.Core.List.{List, [], _∷_, _++_, map}
