@@ -5,7 +5,7 @@ use borrow.Author.Tests.{eq-eqb, ne-eqb}
 use Rattle.bits.specs.Fields.{bitsAt}
 use Rattle.isa.specs.declared.Decoded.{Decoded}
 use Rattle.isa.specs.declared.Decoded.the-variants.{Undefined}
-use Rattle.isa.specs.DecodingBranches.{ifBit21}
+use Rattle.isa.specs.Inside.DecodingBranches.{ifBit21}
 
 module _ (w bit : ℕ) {b : ℕ} (is : b ≡ bitsAt w 21 1) where
   -- bit 21 is as it must be, and a field m has the value k

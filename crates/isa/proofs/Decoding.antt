@@ -20,7 +20,7 @@ use Rattle.isa.specs.declared.Decoded.{Decoded}
 use Rattle.isa.specs.declared.Decoded.the-variants.{Is, Undefined}
 use Rattle.isa.specs.Words.{addSubBits, twoSourceBits, ldgBits, tagStoreBits, modeBits, stgpBits, granuleCount, wordOf}
 use Rattle.isa.specs.Decoding.{signedAmount, addSubAt, twoSourceAt, ldgAt, tagStoreAt, stgpAt, formsAt, formOf, decodeOf}
-use Rattle.isa.specs.DecodingBranches.{ifBit21, addSubBranch, twoSourceBranch, subpsBranch, ldgBranch, modeBranch}
+use Rattle.isa.specs.Inside.DecodingBranches.{ifBit21, addSubBranch, twoSourceBranch, subpsBranch, ldgBranch, modeBranch}
 use Rattle.isa.proofs.Amounts.{unsigned-count, imm9-count, simm7-count}
 use Rattle.isa.proofs.Table.{addSubTop, twoSourceTop, opcode, tagStoreTop, stgpTop, add-sub-parts, two-source-parts, tag-store-parts, mode-small, stgp-parts}
 

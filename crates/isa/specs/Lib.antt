@@ -1,6 +1,6 @@
 pub mod Answers
 pub mod Decoding
 pub mod Encoding
+pub mod Inside
 pub mod RoundTrip
-pub mod DecodingBranches
 pub mod Words

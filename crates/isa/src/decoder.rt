@@ -9,7 +9,7 @@ ghost use mathlib.Core.Path.{_≡_};
 ghost use Prim.Native.Nat.{_*_, _<_, _≤_};
 ghost use Rattle.bits.specs.Fields.{bitsAt};
 ghost use Rattle.isa.specs.Decoding.{signedAmount, twoSourceAt, tagStoreAt, stgpAt};
-ghost use Rattle.isa.specs.DecodingBranches.{addSubBranch, twoSourceBranch, subpsBranch, ldgBranch, modeBranch, ifBit21};
+ghost use Rattle.isa.specs.Inside.DecodingBranches.{addSubBranch, twoSourceBranch, subpsBranch, ldgBranch, modeBranch, ifBit21};
 
 // The bytes of a signed count of granules in a field of 2 * half values.
 fn signed(imm: u64, half: u64) -> u64

@@ -2,7 +2,7 @@
 use borrow.Author.Needs.{needs}
 use Prim.Native.Nat.{ℕ}
 use borrow.Author.Tests.{eq-eqb, ne-eqb}
-use Rattle.isa.specs.DecodingBranches.{modeBranch}
+use Rattle.isa.specs.Inside.DecodingBranches.{modeBranch}
 use Rattle.isa.proofs.Branches.{at-key, other-bit}
 use Rattle.isa.proofs.decoder.memory_tags.Statement.{statement}
 use Rattle.isa.proofs.decoder.memory_tags.Tie as tie

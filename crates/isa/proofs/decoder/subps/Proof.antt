@@ -2,7 +2,7 @@
 use borrow.Author.Needs.{needs}
 use Prim.Native.Nat.{ℕ}
 use borrow.Author.Tests.{eq-eqb, ne-eqb}
-use Rattle.isa.specs.DecodingBranches.{subpsBranch}
+use Rattle.isa.specs.Inside.DecodingBranches.{subpsBranch}
 use Rattle.isa.proofs.Branches.{at-key, other-bit}
 use Rattle.isa.proofs.decoder.subps.Statement.{statement}
 use Rattle.isa.proofs.decoder.subps.Tie as tie

@@ -2,7 +2,7 @@
 use borrow.Author.Needs.{needs}
 use Prim.Native.Nat.{ℕ}
 use borrow.Author.Tests.{eq-eqb, ne-eqb}
-use Rattle.isa.specs.DecodingBranches.{twoSourceBranch}
+use Rattle.isa.specs.Inside.DecodingBranches.{twoSourceBranch}
 use Rattle.isa.proofs.Branches.{at-key, other-bit}
 use Rattle.isa.proofs.decoder.two_source.Statement.{statement}
 use Rattle.isa.proofs.decoder.two_source.Tie as tie
