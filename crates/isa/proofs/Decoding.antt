@@ -2,7 +2,7 @@
 -- form's fixed bits, and bits 31:22 leave few forms. Assumes nothing.
 use Prim.Native.Nat.{ℕ, zero, suc, _+_, _*_, _^_, _<_}
 use mathlib.Core.Path.{_≡_, refl, ap, sym, _∙_}
-use mathlib.Core.Bool.{Bool, true, false, cond, _&&_, and-false, false≢true, and-eq-true-iff}
+use mathlib.Core.Bool.{Bool, true, false, cond, _&&_, false≢true, and-eq-true-iff}
 use native.Mathlib.Omega.{arith}
 use lib.Dec.{eqb, eqb·suc-zero}
 use borrow.Author.Tests.{eq-eqb, ne-eqb, eqb-true}
@@ -195,26 +195,30 @@ guard-subps : (t : Bool) (w : ℕ)
 guard-subps true w = refl
 guard-subps false w = refl
 
--- the stores of one operation by the mode, where mode 0 gives what `ldg` says
-module _ (t : Bool) (op : TagStoreOp) (w : ℕ) where
-  abbrev guarded : ℕ → Decoded
-  guarded m =
+-- the rows of one operation's stores as the branch by their mode: two bits that are not zero are those of a mode
+module _ (op : TagStoreOp) (w : ℕ) where
+  abbrev guarded : Bool → ℕ → Decoded
+  guarded t m =
       cond (t && eqb m 1) (Is (tagStoreAt op Post w))
       (cond (t && eqb m 3) (Is (tagStoreAt op Pre w)) (cond (t && eqb m 2) (Is (tagStoreAt op Offset w)) Undefined))
 
-guard-stores : (t : Bool) (op : TagStoreOp) (w m : ℕ)
-    → cond (t && eqb m 0) (ldgBranch op w) (guarded t op w m) ≡ cond t (modeBranch m op w) Undefined
-guard-stores true op w m = refl
-guard-stores false op w m = refl
+  by-mode : (m : ℕ) → m < 4 → cond (eqb m 0) (ldgBranch op w) (guarded true m) ≡ modeBranch m op w
+  by-mode zero l = refl
+  by-mode (suc zero) l = refl
+  by-mode (suc (suc zero)) l = refl
+  by-mode (suc (suc (suc zero))) l = refl
+  by-mode (suc (suc (suc (suc m)))) l = absurd (omega (arith, l))
 
--- an operation with no LDG: mode 0 finds nothing
-guard-no-ldg : (t : Bool) (op : TagStoreOp) (w m : ℕ) → ldgBranch op w ≡ Undefined
-    → guarded t op w m ≡ cond t (modeBranch m op w) Undefined
-guard-no-ldg true op w zero e = sym e
-guard-no-ldg false op w zero e = refl
-guard-no-ldg t op w (suc m) e =
-    ap (λ (b : Bool). cond b (ldgBranch op w) (guarded t op w (suc m))) (sym (ap (λ (b : Bool). t && b) (eqb·suc-zero m) ∙ and-false t))
-    ∙ guard-stores t op w (suc m)
+  guard-stores : (t : Bool) (m : ℕ) → m < 4
+      → cond (t && eqb m 0) (ldgBranch op w) (guarded t m) ≡ cond t (modeBranch m op w) Undefined
+  guard-stores true m l = by-mode m l
+  guard-stores false m l = refl
+
+  -- an operation with no LDG: mode 0 finds nothing
+  guard-no-ldg : (t : Bool) (m : ℕ) → m < 4 → ldgBranch op w ≡ Undefined → guarded t m ≡ cond t (modeBranch m op w) Undefined
+  guard-no-ldg true zero l e = sym e
+  guard-no-ldg true (suc m) l e = simp (eqb·suc-zero m) (simp (eqb·suc-zero m) at (by-mode (suc m) l))
+  guard-no-ldg false m l e = refl
 
 at-add-sub : (op : AddSubOp) (w : ℕ) → rows (addSubTop op) w ≡ addSubBranch op w
 at-add-sub Addg w = refl
@@ -227,10 +231,10 @@ at-subps : (w : ℕ) → rows (twoSourceTop Subps) w ≡ ifBit21 w 0 (subpsBranc
 at-subps w = guard-subps (eqb (bitsAt w 21 1) 0) w
 
 at-memory-tags : (op : TagStoreOp) (w : ℕ) → rows (tagStoreTop op) w ≡ ifBit21 w 1 (modeBranch (bitsAt w 10 2) op w)
-at-memory-tags Stg w = guard-no-ldg (eqb (bitsAt w 21 1) 1) Stg w (bitsAt w 10 2) refl
-at-memory-tags Stzg w = guard-stores (eqb (bitsAt w 21 1) 1) Stzg w (bitsAt w 10 2)
-at-memory-tags St2g w = guard-no-ldg (eqb (bitsAt w 21 1) 1) St2g w (bitsAt w 10 2) refl
-at-memory-tags Stz2g w = guard-no-ldg (eqb (bitsAt w 21 1) 1) Stz2g w (bitsAt w 10 2) refl
+at-memory-tags Stg w = guard-no-ldg Stg w (eqb (bitsAt w 21 1) 1) (bitsAt w 10 2) (omega arith) refl
+at-memory-tags Stzg w = guard-stores Stzg w (eqb (bitsAt w 21 1) 1) (bitsAt w 10 2) (omega arith)
+at-memory-tags St2g w = guard-no-ldg St2g w (eqb (bitsAt w 21 1) 1) (bitsAt w 10 2) (omega arith) refl
+at-memory-tags Stz2g w = guard-no-ldg Stz2g w (eqb (bitsAt w 21 1) 1) (bitsAt w 10 2) (omega arith) refl
 
 at-stgp : (mode : Mode) (w : ℕ) → rows (stgpTop mode) w ≡ Is (stgpAt mode w)
 at-stgp Post w = refl

@@ -9,7 +9,7 @@ ghost use mathlib.Core.Path.{_≡_};
 ghost use Prim.Native.Nat.{_*_, _<_, _≤_};
 ghost use Rattle.bits.specs.Fields.{bitsAt};
 ghost use Rattle.isa.specs.Decoding.{signedAmount, twoSourceAt, tagStoreAt, stgpAt};
-ghost use Rattle.isa.specs.Inside.DecodingBranches.{addSubBranch, twoSourceBranch, subpsBranch, ldgBranch, modeBranch, ifBit21};
+ghost use Rattle.isa.specs.Inside.DecodingBranches.{addSubBranch, twoSourceBranch, subpsBranch, ldgBranch, modeOf, modeBranch, ifBit21};
 
 // The bytes of a signed count of granules in a field of 2 * half values.
 fn signed(imm: u64, half: u64) -> u64
@@ -112,19 +112,27 @@ fn tag_store(op: TagStoreOp, mode: Mode, w: u64) -> Decoded
     })
 }
 
+// The mode of bits 11:10 that are not zero: a value, so that what follows does not branch on it.
+fn mode_of(mode: u64) -> Mode
+    ensures { λ r. ⌜ r ≡ modeOf mode ⌝ }
+{
+    match mode {
+        1 => Mode::Post,
+        3 => Mode::Pre,
+        _ => Mode::Offset,
+    }
+}
+
 // LDG and the tag stores: bit 21 is one, and bits 11:10 are the mode or, for LDG, zero.
 pub(crate) fn memory_tags(op: TagStoreOp, w: u64) -> Decoded
     ensures { λ r. ⌜ r ≡ ifBit21 w 1 (modeBranch (bitsAt w 10 2) op w) ⌝ }
 {
     if bits::field(w, 21, 1) == 1 {
         let mode = bits::field(w, 10, 2);
-        match mode {
-            0 => ldg(op, w),
-            1 => tag_store(op, Mode::Post, w),
-            3 => tag_store(op, Mode::Pre, w),
-            2 => tag_store(op, Mode::Offset, w),
-            // Two bits have no other value, but a match on a number asks for this arm.
-            _ => Decoded::Undefined,
+        if mode == 0 {
+            ldg(op, w)
+        } else {
+            tag_store(op, mode_of(mode), w)
         }
     } else {
         Decoded::Undefined

@@ -4,6 +4,7 @@ use Prim.Native.Nat.{ℕ}
 use mathlib.Core.Bool.{cond}
 use lib.Dec.{eqb}
 use Rattle.bits.specs.Fields.{bitsAt}
+use Rattle.isa.specs.declared.Mode.{Mode}
 use Rattle.isa.specs.declared.Mode.the-variants.{Post, Pre, Offset}
 use Rattle.isa.specs.declared.AddSubOp.{AddSubOp}
 use Rattle.isa.specs.declared.TwoSourceOp.the-variants.{Subp, Subps, Irg, Gmi}
@@ -39,10 +40,10 @@ ldgBranch Stzg w = Is (ldgAt w)
 ldgBranch St2g w = Undefined
 ldgBranch Stz2g w = Undefined
 
+-- the mode of bits 11:10 that are not zero
+abbrev pub modeOf : ℕ → Mode
+modeOf mode = cond (eqb mode 1) Post (cond (eqb mode 3) Pre Offset)
+
 -- LDG and the tag stores: by bits 11:10
 abbrev pub modeBranch : ℕ → TagStoreOp → ℕ → Decoded
-modeBranch mode op w =
-    cond (eqb mode 0) (ldgBranch op w)
-    (cond (eqb mode 1) (Is (tagStoreAt op Post w))
-    (cond (eqb mode 3) (Is (tagStoreAt op Pre w))
-    (cond (eqb mode 2) (Is (tagStoreAt op Offset w)) Undefined)))
+modeBranch mode op w = cond (eqb mode 0) (ldgBranch op w) (Is (tagStoreAt op (modeOf mode) w))
