@@ -20,7 +20,7 @@ use Rattle.isa.specs.declared.Decoded.{Decoded}
 use Rattle.isa.specs.declared.Decoded.the-variants.{Is}
 use Rattle.isa.specs.declared.Decoded.the-variants.{Undefined as NoForm}
 use Rattle.isa.specs.Decoding.{decodeOf}
-use Rattle.memory.specs.Addresses.{allInside, granuleOf, indexOf, named}
+use Rattle.memory.specs.Locations.{allInside, granuleOf, indexOf, named}
 use Rattle.machine.specs.declared.Status.{Status}
 use Rattle.machine.specs.declared.Code.{Code}
 use Rattle.machine.specs.declared.Change.{Change}

@@ -14,7 +14,7 @@ use Rattle.isa.specs.declared.Form.{Form}
 use Rattle.isa.specs.declared.Form.the-variants.{AddSub, TwoSource, Ldg, TagStore, Stgp}
 use Rattle.isa.specs.declared.Decoded.{Decoded}
 use Rattle.isa.specs.declared.Decoded.the-variants.{Is, Undefined}
-use Rattle.memory.specs.Addresses.{indexOf, named}
+use Rattle.memory.specs.Locations.{indexOf, named}
 use Rattle.memory.specs.Stores.{savedBytes, tagBytes}
 use Rattle.machine.specs.State.{State, stateOf}
 use Rattle.machine.specs.Registers.{xOrSp, orNone, written}

@@ -4,7 +4,7 @@ use Rattle.bits.specs.LittleEndian.{lowBytes}
 use Rattle.isa.specs.Decoding.{decodeOf, formOf, formsAt}
 use Rattle.tag.specs.TagChoice.{chosen, skip, walk}
 use Rattle.tag.specs.RandomBits.{randomBit, nextSeed, bitsDrawn, seedDrawn}
-use Rattle.memory.specs.Addresses.{allInside}
+use Rattle.memory.specs.Locations.{allInside}
 use Rattle.memory.specs.Sizes.{sizesOk}
 use Rattle.machine.specs.Setup.{stateOk}
 use Rattle.machine.specs.Codes.{firstOf}

@@ -12,7 +12,7 @@ use Rattle.isa.specs.declared.Decoded.the-variants.{Is}
 use Rattle.isa.specs.declared.Decoded.the-variants.{Undefined as NoForm}
 use Rattle.memory.specs.declared.Granule.the-variants.{At}
 use Rattle.memory.specs.declared.Granule.the-variants.{Outside as NoGranule}
-use Rattle.memory.specs.Addresses.{allInside, named, granuleOf, indexOf, onward}
+use Rattle.memory.specs.Locations.{allInside, named, granuleOf, indexOf, onward}
 use Rattle.memory.proofs.Sizes.{Sized}
 use Rattle.machine.specs.declared.Change.{Change}
 use Rattle.machine.specs.declared.Code.{Code}

@@ -7,10 +7,10 @@ use lib.Dec.{eqb}
 use borrow.Author.Tests.{eqb-true, eq-eqb, not-false}
 use Rattle.memory.specs.declared.Granule.{Granule}
 use Rattle.memory.specs.declared.Granule.the-variants.{At, Outside}
-use Rattle.memory.specs.Addresses.{named, granuleOf}
+use Rattle.memory.specs.Locations.{named, granuleOf}
 use Rattle.memory.specs.Sizes.{sizesOk}
 use Rattle.memory.proofs.Sizes.{sized}
-use Rattle.memory.proofs.Addresses.{located, within}
+use Rattle.memory.proofs.Locations.{located, within}
 use Rattle.machine.specs.declared.Settings.{Settings}
 use Rattle.machine.specs.declared.Code.the-variants.{SpAlign, Align}
 use Rattle.instructions.specs.declared.Placed.the-variants.{First, Nowhere}

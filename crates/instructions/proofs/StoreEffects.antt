@@ -14,10 +14,10 @@ use Rattle.isa.specs.declared.Mode.the-variants.{Post, Pre, Offset}
 use Rattle.isa.specs.declared.TagStoreOp.{TagStoreOp}
 use Rattle.isa.specs.declared.TagStoreOp.the-variants.{Stg, Stzg, St2g, Stz2g}
 use Rattle.tag.specs.PointerTags.{tagOf}
-use Rattle.memory.specs.Addresses.{indexOf, onward, allInside, named}
+use Rattle.memory.specs.Locations.{indexOf, onward, allInside, named}
 use Rattle.memory.specs.Stores.{zeroBytes, pairBytes}
 use Rattle.memory.proofs.Sizes.{Sized}
-use Rattle.memory.proofs.Addresses.{all-first, next-index, first-word, second-word}
+use Rattle.memory.proofs.Locations.{all-first, next-index, first-word, second-word}
 use Rattle.memory.proofs.Lists.{sets-append}
 use Rattle.machine.specs.declared.Change.{Change}
 use Rattle.machine.specs.declared.Change.the-variants.{Keep, Pair}

@@ -14,8 +14,8 @@ use Rattle.isa.specs.declared.Form.the-variants.{AddSub, TwoSource, Ldg, TagSto
 use Rattle.isa.specs.declared.Decoded.{Decoded}
 use Rattle.isa.specs.declared.Decoded.the-variants.{Is}
 use Rattle.isa.specs.declared.Decoded.the-variants.{Undefined as NoForm}
-use Rattle.memory.specs.Addresses.{named}
-use Rattle.memory.proofs.Addresses.{one-named}
+use Rattle.memory.specs.Locations.{named}
+use Rattle.memory.proofs.Locations.{one-named}
 use Rattle.machine.specs.declared.Settings.{Settings}
 use Rattle.machine.specs.declared.Status.{Status}
 use Rattle.machine.specs.declared.Change.{Change}

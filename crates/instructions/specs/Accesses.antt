@@ -4,7 +4,7 @@ use mathlib.Core.Bool.{Bool, not, _&&_}
 use lib.Dec.{eqb}
 use Rattle.isa.specs.declared.Mode.{Mode}
 use Rattle.isa.specs.declared.Mode.the-variants.{Post, Pre, Offset}
-use Rattle.memory.specs.Addresses.{onward}
+use Rattle.memory.specs.Locations.{onward}
 use Rattle.machine.specs.State.{State}
 use Rattle.machine.specs.Registers.{toXOrSp}
 

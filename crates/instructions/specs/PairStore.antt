@@ -4,7 +4,7 @@ use lib.Seq.{sets}
 use Rattle.bits.specs.LittleEndian.{bytesOf}
 use Rattle.isa.specs.declared.Mode.{Mode}
 use Rattle.tag.specs.PointerTags.{tagOf}
-use Rattle.memory.specs.Addresses.{location, onward}
+use Rattle.memory.specs.Locations.{location, onward}
 use Rattle.machine.specs.State.{State, withBytes}
 use Rattle.machine.specs.Registers.{xOrSp, xOrZero}
 use Rattle.instructions.specs.Accesses.{addressOf, writeback}

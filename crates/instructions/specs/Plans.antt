@@ -18,7 +18,7 @@ use Rattle.tag.specs.PointerTags.{tagOf, withTag}
 use Rattle.memory.specs.declared.Granule.{Granule}
 use Rattle.memory.specs.declared.Granule.the-variants.{At}
 use Rattle.memory.specs.declared.Granule.the-variants.{Outside as NoGranule}
-use Rattle.memory.specs.Addresses.{granuleOf, named, onward}
+use Rattle.memory.specs.Locations.{granuleOf, named, onward}
 use Rattle.machine.specs.declared.Settings.{Settings}
 use Rattle.machine.specs.declared.Status.{Status}
 use Rattle.machine.specs.declared.Change.{Change}

@@ -4,7 +4,7 @@ use mathlib.Core.Bool.{cond}
 use mathlib.Core.List.{List}
 use lib.ListN.{getD}
 use Rattle.tag.specs.PointerTags.{withTag}
-use Rattle.memory.specs.Addresses.{indexOf, onward}
+use Rattle.memory.specs.Locations.{indexOf, onward}
 use Rattle.machine.specs.declared.Settings.{Settings}
 use Rattle.machine.specs.State.{State}
 use Rattle.machine.specs.Registers.{xOrSp, xOrZero, toXOrZero}

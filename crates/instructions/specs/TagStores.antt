@@ -7,7 +7,7 @@ use Rattle.isa.specs.declared.Mode.{Mode}
 use Rattle.isa.specs.declared.TagStoreOp.{TagStoreOp}
 use Rattle.isa.specs.declared.TagStoreOp.the-variants.{Stg, Stzg, St2g, Stz2g}
 use Rattle.tag.specs.PointerTags.{tagOf}
-use Rattle.memory.specs.Addresses.{indexOf, onward}
+use Rattle.memory.specs.Locations.{indexOf, onward}
 use Rattle.memory.specs.Stores.{zeroBytes}
 use Rattle.machine.specs.State.{State, withBytes, withTags}
 use Rattle.machine.specs.Registers.{xOrSp}

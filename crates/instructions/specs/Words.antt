@@ -10,7 +10,7 @@ use Rattle.isa.specs.declared.Decoded.{Decoded}
 use Rattle.isa.specs.declared.Decoded.the-variants.{Is}
 use Rattle.isa.specs.declared.Decoded.the-variants.{Undefined as NoForm}
 use Rattle.isa.specs.Decoding.{decodeOf}
-use Rattle.memory.specs.Addresses.{allInside, named}
+use Rattle.memory.specs.Locations.{allInside, named}
 use Rattle.machine.specs.declared.Code.{Code}
 use Rattle.machine.specs.declared.Code.the-variants.{Done, Setup, Undefined, SpAlign, Align, Outside, NoHistory, BadRecord, Field}
 use Rattle.machine.specs.State.{State}

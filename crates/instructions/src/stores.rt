@@ -1,6 +1,6 @@
 // What every store shares: its address, its refusals, writeback.
 ghost use mathlib.Core.Path.{_≡_};
-ghost use Rattle.memory.specs.Addresses.{named};
+ghost use Rattle.memory.specs.Locations.{named};
 ghost use Rattle.instructions.specs.Accesses.{writebackTo};
 ghost use Rattle.instructions.specs.Plans.{storeEffect, storePlan};
 use super::Judged;

@@ -3,7 +3,7 @@ use Prim.Native.Nat.{ℕ, zero, suc, _≤_}
 use mathlib.Core.Path.{_≡_, refl}
 use native.Mathlib.Omega.{arith}
 use lib.Dec.{eqb}
-use Rattle.memory.specs.Addresses.{named}
+use Rattle.memory.specs.Locations.{named}
 
 -- one granule or two
 pub named-two : (n : ℕ) → 1 ≤ n → n ≤ 2 → named (eqb n 2) ≡ n

@@ -7,7 +7,7 @@ use native.Mathlib.Omega.{arith}
 use lib.Dec.{eqb, ltb}
 use lib.ListN.{length, drop, getD, set, length-append, length-replicate}
 use lib.Seq.{sets, set-set, set-getD, drop-drop}
-use Rattle.memory.specs.Addresses.{named}
+use Rattle.memory.specs.Locations.{named}
 use Rattle.memory.specs.Stores.{savedBytes, tagBytes}
 use Rattle.memory.proofs.Stores.{pair-length, data-back, tags-back}
 use Rattle.machine.specs.declared.Change.{Change}

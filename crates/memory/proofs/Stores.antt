@@ -9,7 +9,7 @@ use lib.ListN.{length, take, drop, getD, length-append, length-drop}
 use lib.Seq.{sets, length-take-le, drop-cons, drop-drop, take-add, getD-drop}
 use Rattle.bits.specs.LittleEndian.{bytesOf, wordFrom}
 use Rattle.bits.proofs.LittleEndian.{low-bytes-length, low-bytes-from}
-use Rattle.memory.specs.Addresses.{named}
+use Rattle.memory.specs.Locations.{named}
 use Rattle.memory.specs.Stores.{pairBytes, savedBytes, tagBytes}
 use Rattle.memory.proofs.Lists.{sets-back}
 

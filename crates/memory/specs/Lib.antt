@@ -1,3 +1,3 @@
+pub mod Locations
 pub mod Sizes
-pub mod Addresses
 pub mod Stores

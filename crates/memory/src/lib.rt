@@ -5,7 +5,7 @@ ghost use mathlib.Core.Path.{_≡_};
 ghost use Prim.Native.Nat.{_+_, _*_, _≤_};
 ghost use lib.ListN.{length};
 ghost use lib.Seq.{sets};
-ghost use Rattle.memory.specs.Addresses.{granuleCode, granuleOf, inside, named};
+ghost use Rattle.memory.specs.Locations.{granuleCode, granuleOf, inside, named};
 ghost use Rattle.memory.specs.Sizes.{sizesOk};
 ghost use Rattle.memory.specs.Stores.{pairBytes, savedBytes, tagBytes, zeroBytes};
 

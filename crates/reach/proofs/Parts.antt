@@ -6,9 +6,9 @@ use mathlib.Core.Path.{_≡_, refl, sym}
 use native.Mathlib.Omega.{arith}
 use lib.ListN.{length, take, drop}
 use Rattle.memory.specs.declared.Granule.the-variants.{At, Outside}
-use Rattle.memory.specs.Addresses.{location, inside, indexOf, granuleOf}
+use Rattle.memory.specs.Locations.{location, inside, indexOf, granuleOf}
 use Rattle.memory.specs.Sizes.{sizesOk}
-use Rattle.memory.proofs.Addresses.{inside-range, one-inside, located, all-first}
+use Rattle.memory.proofs.Locations.{inside-range, one-inside, located, all-first}
 use Rattle.memory.proofs.Sizes.{Sized, sized}
 use Rattle.tag.specs.PointerTags.{tagOf}
 use Rattle.reach.specs.ReachablePart.{inRow, offsetOf, partFrom, pointsInside, reachableOf}

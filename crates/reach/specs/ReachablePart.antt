@@ -5,7 +5,7 @@ use mathlib.Core.List.{List, [], _∷_}
 use lib.Dec.{eqb}
 use lib.ListN.{length, take, drop}
 use Rattle.memory.specs.Sizes.{sizesOk}
-use Rattle.memory.specs.Addresses.{location, inside}
+use Rattle.memory.specs.Locations.{location, inside}
 use Rattle.tag.specs.PointerTags.{tagOf}
 
 -- how many granules in a row, from the first on, carry the tag: a granule's tag is the low four bits of its byte

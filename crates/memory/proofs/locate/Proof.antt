@@ -3,8 +3,8 @@ use borrow.Author.Needs.{needs}
 use borrow.Author.Tests.{not-true, not-false}
 use mathlib.Core.Logic.{⊎-elim}
 use mathlib.Core.Path.{sym, ap, _∙_}
-use Rattle.memory.specs.Addresses.{inside}
-use Rattle.memory.proofs.Addresses.{inside-range, first-outside, second-outside, one-inside, two-inside}
+use Rattle.memory.specs.Locations.{inside}
+use Rattle.memory.proofs.Locations.{inside-range, first-outside, second-outside, one-inside, two-inside}
 use Rattle.memory.proofs.locate.Statement.{statement}
 use Rattle.memory.proofs.locate.Tie as tie
 

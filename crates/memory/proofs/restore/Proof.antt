@@ -3,9 +3,9 @@ use borrow.Author.Needs.{needs}
 use mathlib.Core.Path.{ap}
 use native.Mathlib.Omega.{arith}
 use lib.ListN.{length-take, length-drop}
-use Rattle.memory.specs.Addresses.{named}
+use Rattle.memory.specs.Locations.{named}
 use Rattle.memory.specs.Stores.{pairBytes}
-use Rattle.memory.proofs.Addresses.{one-named}
+use Rattle.memory.proofs.Locations.{one-named}
 use Rattle.memory.proofs.Lists.{back-append}
 use Rattle.memory.proofs.Stores.{pair-length}
 use Rattle.memory.proofs.restore.Statement.{statement}

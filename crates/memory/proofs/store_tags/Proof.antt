@@ -4,8 +4,8 @@ use mathlib.Core.Path.{ap}
 use native.Mathlib.Numerals.{add-one}
 use native.Mathlib.Omega.{arith}
 use lib.ListN.{length-set}
-use Rattle.memory.specs.Addresses.{named}
-use Rattle.memory.proofs.Addresses.{one-named}
+use Rattle.memory.specs.Locations.{named}
+use Rattle.memory.proofs.Locations.{one-named}
 use Rattle.memory.proofs.store_tags.Statement.{statement}
 use Rattle.memory.proofs.store_tags.Tie as tie
 

@@ -5,7 +5,7 @@ use mathlib.Core.Path.{_≡_, refl}
 use native.Mathlib.Omega.{arith}
 use lib.Dec.{leb, ltb}
 use borrow.Author.Tests.{leb-true, ltb-true}
-use Rattle.memory.specs.Addresses.{location, inside, allInside, named, granuleOf, onward, indexOf}
+use Rattle.memory.specs.Locations.{location, inside, allInside, named, granuleOf, onward, indexOf}
 use Rattle.memory.specs.declared.Granule.the-variants.{At, Outside}
 use Rattle.memory.proofs.Sizes.{Sized}
 
