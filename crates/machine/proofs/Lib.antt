@@ -1,5 +1,4 @@
 -- Laws of the definitions, for the proofs here and in the crates above.
-pub mod Granules
+pub mod LowestCode
 pub mod Parts
 pub mod Setup
-pub mod Undone

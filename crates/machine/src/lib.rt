@@ -1,15 +1,9 @@
-// The machine: its parts, its codes and the rules of its setup; an effect applied to it, and what undoes that.
+// The machine: its parts, its codes and the rules of its setup.
 ghost use mathlib.Core.Path.{_≡_};
-ghost use mathlib.Core.Bool.{true};
-ghost use Prim.Native.Nat.{_*_};
-ghost use lib.ListN.{length};
 ghost use Rattle.machine.specs.Codes.{codeNumber};
-ghost use Rattle.machine.specs.Effects.{Within, bytesAfter, tagsAfter, xAfter};
-ghost use Rattle.machine.specs.Inverses.{inverse};
 ghost use Rattle.machine.specs.Setup.{cursorOk, setupOk, stateOk};
 ghost use Rattle.machine.specs.State.{freshOn};
 
-mod effects;
 pub mod register_file;
 
 // What no word changes.
@@ -54,28 +48,6 @@ pub enum Code {
     NoHistory,
     BadRecord,
     Field,
-}
-
-// What becomes of the data of an effect's granules.
-pub enum Change {
-    Keep,
-    Zero,
-    Pair(u64, u64),
-    // two words for each granule, as a step back restores them
-    Words(u64, u64, u64, u64),
-}
-
-// What an accepted word changes: a register (0 to 30, 31 SP, 32 none), the status, and the granules from first on.
-pub struct Effect {
-    pub register: u64,
-    pub value: u64,
-    pub status: Status,
-    pub first: usize,
-    pub granules: usize,
-    pub tagged: bool,
-    pub tag: u8,
-    pub second: u8,
-    pub change: Change,
 }
 
 impl Code {
@@ -156,44 +128,4 @@ pub fn setup_ok(machine: Machine, bytes: usize, granules: usize, words: usize) -
         return cursor_ok(words / 8, cursor);
     }
     false
-}
-
-// Applies an effect to the registers, the data and the tags; the status after it is the effect's.
-// Public because our own crates call it, with an effect whose granules they know to be inside.
-pub fn apply(x: &mut [u64; 32], e: Effect, bytes: &mut [u8], tags: &mut [u8])
-    requires { ⌜ Within e (length (now tags)) ⌝ }
-    requires { ⌜ length (now bytes) ≡ 16 * length (now tags) ⌝ }
-    ensures { λ _. ⌜ now (x .exit) ≡ xAfter e (now (x .entry)) ⌝ }
-    ensures { λ _. ⌜ now (bytes .exit) ≡ bytesAfter e (now (bytes .entry)) ⌝ }
-    ensures { λ _. ⌜ now (tags .exit) ≡ tagsAfter e (now (tags .entry)) ⌝ }
-{
-    let change = e.change;
-    effects::change_data(bytes, e.first, e.granules, change);
-    effects::change_tags(tags, e.first, e.granules, e.tagged, e.tag, e.second);
-    register_file::write(x, e.register, e.value);
-}
-
-// The effect that undoes an effect on this state: the old register, status, tag bytes and data.
-// Public because our own crates call it, with an effect whose granules they know to be inside.
-pub fn inverse(x: &[u64; 32], status: Status, bytes: &[u8], tags: &[u8], e: Effect) -> Effect
-    requires { ⌜ Within e (length (now tags)) ⌝ }
-    requires { ⌜ length (now bytes) ≡ 16 * length (now tags) ⌝ }
-    ensures { λ r. ⌜ r ≡ inverse e (now (x .entry)) status (now (bytes .entry)) (now (tags .entry)) ⌝ }
-{
-    let change = e.change;
-    let first = e.first;
-    let granules = e.granules;
-    let some = granules != 0;
-    let old = effects::old_data(bytes, first, granules, change);
-    Effect {
-        register: e.register,
-        value: register_file::x_or_sp(x, e.register),
-        status: status,
-        first: first,
-        granules: granules,
-        tagged: some,
-        tag: effects::old_tag(tags, first, some),
-        second: effects::old_tag(tags, first + 1, granules == 2),
-        change: old,
-    }
 }

@@ -1,4 +1,4 @@
-// Registers by number. The module is public because `instructions` calls it.
+// Registers by number. The module is public because our own crates call it.
 ghost use mathlib.Core.Path.{_≡_};
 ghost use Rattle.machine.specs.Registers.{orNone, written, xOrSp, xOrZero};
 
@@ -31,7 +31,7 @@ pub fn or_none(n: u64) -> u64
 }
 
 // Gives register n a value; 32 is none.
-pub(crate) fn write(x: &mut [u64; 32], n: u64, v: u64)
+pub fn write(x: &mut [u64; 32], n: u64, v: u64)
     ensures { λ _. ⌜ now (x .exit) ≡ written (now (x .entry)) n v ⌝ }
 {
     if n < 32 {

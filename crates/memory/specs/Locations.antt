@@ -26,13 +26,9 @@ unfoldable pub allInside : ℕ → ℕ → ℕ → ℕ → Bool
 allInside base g zero address = true
 allInside base g (suc n) address = inside base g address && allInside base g n (onward address 16)
 
--- a pair store names two granules, the others one
-abbrev pub named : Bool → ℕ
-named pair = cond pair 2 1
-
--- the index of the first granule named, or outside if one of them is
-unfoldable pub granuleOf : ℕ → ℕ → ℕ → Bool → Granule
-granuleOf base g address pair = cond (allInside base g (named pair) address) (At (indexOf base address)) Outside
+-- the index of the first of n granules, or outside if one of them is
+unfoldable pub granuleOf : ℕ → ℕ → ℕ → ℕ → Granule
+granuleOf base g address n = cond (allInside base g n address) (At (indexOf base address)) Outside
 
 -- 0 DONE, 5 OUTSIDE
 abbrev pub granuleCode : Granule → ℕ

@@ -1,8 +1,7 @@
 -- What stores write from a granule on (document 01, "Stores"; old data and old tag bytes: "History").
 use Prim.Native.Nat.{ℕ, _*_}
-use mathlib.Core.Bool.{Bool, cond}
 use mathlib.Core.List.{List, [], _∷_, _++_}
-use lib.ListN.{replicate}
+use lib.ListN.{take, replicate}
 use Rattle.bits.specs.LittleEndian.{bytesOf}
 
 -- the data of so many granules, zeroed
@@ -13,10 +12,14 @@ zeroBytes granules = replicate (16 * granules) 0
 abbrev pub pairBytes : ℕ → ℕ → List ℕ
 pairBytes low high = bytesOf low ++ bytesOf high
 
--- the data of one granule or of two, from the words saved
-abbrev pub savedBytes : Bool → ℕ → ℕ → ℕ → ℕ → List ℕ
-savedBytes pair a b c d = cond pair (pairBytes a b ++ pairBytes c d) (pairBytes a b)
+-- the data of n granules, at most two, from the words saved
+abbrev pub savedBytes : ℕ → ℕ → ℕ → ℕ → ℕ → List ℕ
+savedBytes n a b c d = take (16 * n) (pairBytes a b ++ pairBytes c d)
 
--- the tag bytes of one granule or of two
-abbrev pub tagBytes : Bool → ℕ → ℕ → List ℕ
-tagBytes pair first second = cond pair (first ∷ second ∷ []) (first ∷ [])
+-- the tag bytes of n granules, at most two, from those saved
+abbrev pub savedTags : ℕ → ℕ → ℕ → List ℕ
+savedTags n first second = take n (first ∷ second ∷ [])
+
+-- one tag for each of n granules
+abbrev pub equalTags : ℕ → ℕ → List ℕ
+equalTags n tag = replicate n tag

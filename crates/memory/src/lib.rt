@@ -1,13 +1,14 @@
 // The modelled memory: the rule on its sizes and base, the granules that an address names, and the stores.
 // A store is lent the part of the data that begins at the granule. Each function with a `requires` is public because our
 // own crates call it, with granules that they know to be inside.
+ghost use mathlib.Core.Bool.{true};
 ghost use mathlib.Core.Path.{_≡_};
-ghost use Prim.Native.Nat.{_+_, _*_, _≤_};
+ghost use Prim.Native.Nat.{_+_, _*_, _%_, _≤_};
 ghost use lib.ListN.{length};
 ghost use lib.Seq.{sets};
-ghost use Rattle.memory.specs.Locations.{granuleCode, granuleOf, inside, named};
+ghost use Rattle.memory.specs.Locations.{granuleCode, granuleOf};
 ghost use Rattle.memory.specs.Sizes.{sizesOk};
-ghost use Rattle.memory.specs.Stores.{pairBytes, savedBytes, tagBytes, zeroBytes};
+ghost use Rattle.memory.specs.Stores.{equalTags, pairBytes, savedBytes, savedTags, zeroBytes};
 
 // The first of the granules that an address names, or none where one of them is outside.
 pub enum Granule {
@@ -43,30 +44,23 @@ pub fn sizes_ok(base: u64, bytes: usize, granules: usize) -> bool
     base <= 0x100_0000_0000_0000 - 16 * granules as u64
 }
 
-// Whether the granule at an address lies inside.
-fn is_inside(base: u64, granules: usize, address: u64) -> bool
-    ensures { λ r. ⌜ r ≡ inside base granules address ⌝ }
+// The granules that an address names, so many from its own on. What lies below the base has an index past every memory's end.
+pub fn locate(base: u64, granules: usize, address: u64, count: usize) -> Granule
+    requires { ⌜ sizesOk base (16 * granules) granules ≡ true ⌝ }
+    requires { ⌜ 1 ≤ count ⌝ }
+    requires { ⌜ (2 ≤ count → address % 16 ≡ 0) ⌝ }
+    ensures { λ r. ⌜ r ≡ granuleOf base granules address count ⌝ }
 {
     let location = address % 0x100_0000_0000_0000;
-    if location < base {
-        return false;
-    }
-    (location - base) / 16 < granules as u64
-}
-
-// The granules that an address names, two for a pair.
-pub fn locate(base: u64, granules: usize, address: u64, pair: bool) -> Granule
-    ensures { λ r. ⌜ r ≡ granuleOf base granules address pair ⌝ }
-{
-    if !is_inside(base, granules, address) {
+    let index = std::num::wrapping_sub_u64(location, base) / 16;
+    let all = granules as u64;
+    if all <= index {
         return Granule::Outside;
     }
-    if pair {
-        if !is_inside(base, granules, std::num::wrapping_add_u64(address, 16)) {
-            return Granule::Outside;
-        }
+    if all - index < count as u64 {
+        return Granule::Outside;
     }
-    Granule::At(((address % 0x100_0000_0000_0000 - base) / 16) as usize)
+    Granule::At(index as usize)
 }
 
 // Zeroes the data of so many granules. The first is mostly the only one, and is stored apart.
@@ -94,24 +88,45 @@ pub fn store_pair(part: &mut [u8], low: u64, high: u64)
     bits::store_word(&mut part[8..], high);
 }
 
-// Stores the words saved of one granule or of two.
-pub fn restore(part: &mut [u8], pair: bool, a: u64, b: u64, c: u64, d: u64)
-    requires { ⌜ 16 * named pair ≤ length (now part) ⌝ }
-    ensures { λ _. ⌜ now (part .exit) ≡ sets (now (part .entry)) 0 (savedBytes pair a b c d) ⌝ }
+// Stores the words saved of so many granules.
+pub fn restore(part: &mut [u8], granules: usize, a: u64, b: u64, c: u64, d: u64)
+    requires { ⌜ granules ≤ 2 ⌝ }
+    requires { ⌜ 16 * granules ≤ length (now part) ⌝ }
+    ensures { λ _. ⌜ now (part .exit) ≡ sets (now (part .entry)) 0 (savedBytes granules a b c d) ⌝ }
 {
+    if granules == 0 {
+        return;
+    }
     store_pair(part, a, b);
-    if pair {
+    if granules == 2 {
         store_pair(&mut part[16..], c, d);
     }
 }
 
-// Stores the tag bytes of one granule or of two.
-pub fn store_tags(tags: &mut [u8], at: usize, pair: bool, first: u8, second: u8)
-    requires { ⌜ at + named pair ≤ length (now tags) ⌝ }
-    ensures { λ _. ⌜ now (tags .exit) ≡ sets (now (tags .entry)) at (tagBytes pair first second) ⌝ }
+// Stores the tag bytes saved of so many granules.
+pub fn restore_tags(tags: &mut [u8], at: usize, granules: usize, first: u8, second: u8)
+    requires { ⌜ granules ≤ 2 ⌝ }
+    requires { ⌜ at + granules ≤ length (now tags) ⌝ }
+    ensures { λ _. ⌜ now (tags .exit) ≡ sets (now (tags .entry)) at (savedTags granules first second) ⌝ }
 {
+    if granules == 0 {
+        return;
+    }
     tags[at] = first;
-    if pair {
+    if granules == 2 {
         tags[at + 1] = second;
+    }
+}
+
+// Gives so many granules, one or two, a tag.
+pub fn store_tags(tags: &mut [u8], at: usize, granules: usize, tag: u8)
+    requires { ⌜ 1 ≤ granules ⌝ }
+    requires { ⌜ granules ≤ 2 ⌝ }
+    requires { ⌜ at + granules ≤ length (now tags) ⌝ }
+    ensures { λ _. ⌜ now (tags .exit) ≡ sets (now (tags .entry)) at (equalTags granules tag) ⌝ }
+{
+    tags[at] = tag;
+    if granules == 2 {
+        tags[at + 1] = tag;
     }
 }

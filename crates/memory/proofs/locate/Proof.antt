@@ -1,62 +1,40 @@
 -- `memory::locate` meets its contract. Assumes nothing.
 use borrow.Author.Needs.{needs}
-use borrow.Author.Tests.{not-true, not-false}
-use mathlib.Core.Logic.{⊎-elim}
-use mathlib.Core.Path.{sym, ap, _∙_}
-use Rattle.memory.specs.Locations.{inside}
-use Rattle.memory.proofs.Locations.{inside-range, first-outside, second-outside, one-inside, two-inside}
+use native.Mathlib.Omega.{arith}
+use Prim.Native.Nat.{_≤_, _<_}
+use Rattle.memory.proofs.Locations.{found, missed}
+use Rattle.memory.proofs.Sizes.{sized}
 use Rattle.memory.proofs.locate.Statement.{statement}
 use Rattle.memory.proofs.locate.Tie as tie
 
-is-inside-requires : tie.Need-is-inside-requires
-is-inside-requires c κs = search needs
+wrapping-sub-u64-requires : tie.Need-wrapping-sub-u64-requires
+wrapping-sub-u64-requires c κs = search needs
 
 returns : tie.Need-returns
 returns c =
-    let a = c .before .before .args in
-    first-outside (a .base) (a .granules) (a .address) (a .pair) (sym (c .before .is-inside .ensures) ∙ not-true _ (c .if1 .taken))
+    let start = c .before .before in
+    let a = start .args in
+    missed (a .base) _ (a .granules) (a .count) (a .address) (c .before .wrapping-sub-u64 .result) (sized (a .base) _ (a .granules) (start .pre .0))
+    (start .pre .1 .0) (start .pre .1 .1) (omega arith) (c .before .wrapping-sub-u64 .ensures) (λ h k. omega arith)
 
-wrapping-add-u64-requires : tie.Need-wrapping-add-u64-requires
-wrapping-add-u64-requires c κs = search needs
-
-is-inside-requires-2 : tie.Need-is-inside-requires-2
-is-inside-requires-2 c κs = search needs
-
-sub-t11 : tie.Need-sub-t11
-sub-t11 c =
-    let a = c .before .before .before .args in
-    inside-range (a .base) (a .granules) (a .address) (sym (c .before .before .is-inside .ensures) ∙ not-false _ (c .before .if1 .left)) .0
-
-returns-3 : tie.Need-returns-3
-returns-3 c =
-    let a = c .before .before .before .args in
-    let first = sym (c .before .before .is-inside .ensures) ∙ not-false _ (c .before .if1 .left) in
-    ⊎-elim
-    (λ w.
-    rw (w .0 .taken)
-    (two-inside (a .base) (a .granules) (a .address) first
-    (ap (inside (a .base) (a .granules)) (sym (w .1 .ensures)) ∙ sym (w .2 .ensures) ∙ not-false _ (w .3 .left))))
-    (λ w. rw (w .left) (one-inside (a .base) (a .granules) (a .address) first))
-    (c .if2 .came)
+sub-if2 : tie.Need-sub-if2
+sub-if2 c = search needs
 
 returns-2 : tie.Need-returns-2
 returns-2 c =
-    let a = c .before .before .before .before .before .before .args in
-    rw (c .before .before .before .if2 .taken)
-    (second-outside (a .base) (a .granules) (a .address)
-    (sym (c .before .before .before .before .before .is-inside .ensures) ∙ not-false _ (c .before .before .before .before .if1 .left))
-    (ap (inside (a .base) (a .granules)) (sym (c .before .before .wrapping-add-u64 .ensures))
-    ∙ sym (c .before .is-inside2 .ensures)
-    ∙ not-true _ (c .if3 .taken)))
+    let start = c .before .before .before in
+    let a = start .args in
+    missed (a .base) _ (a .granules) (a .count) (a .address) (c .before .before .wrapping-sub-u64 .result)
+    (sized (a .base) _ (a .granules) (start .pre .0)) (start .pre .1 .0) (start .pre .1 .1) (omega arith) (c .before .before .wrapping-sub-u64 .ensures)
+    (λ h k. omega arith)
+
+returns-3 : tie.Need-returns-3
+returns-3 c =
+    let start = c .before .before .before in
+    let a = start .args in
+    found (a .base) _ (a .granules) (a .count) (a .address) (c .before .before .wrapping-sub-u64 .result)
+    (sized (a .base) _ (a .granules) (start .pre .0)) (start .pre .1 .0) (start .pre .1 .1) (omega arith) (c .before .before .wrapping-sub-u64 .ensures)
+    (omega arith) (omega arith)
 
 pub locate-spec : {M : Type 1} → statement M
-locate-spec =
-    tie.close
-    (tie.spec
-    is-inside-requires
-    returns
-    wrapping-add-u64-requires
-    is-inside-requires-2
-    returns-2
-    sub-t11
-    returns-3)
+locate-spec = tie.close (tie.spec wrapping-sub-u64-requires returns sub-if2 returns-2 returns-3)

@@ -1,22 +1,20 @@
 -- `memory::store_tags` meets its contract. Assumes nothing.
 use borrow.Author.Needs.{needs}
-use mathlib.Core.Path.{ap}
+use mathlib.Core.Path.{_≡_}
 use native.Mathlib.Numerals.{add-one}
 use native.Mathlib.Omega.{arith}
 use lib.ListN.{length-set}
-use Rattle.memory.specs.Locations.{named}
-use Rattle.memory.proofs.Locations.{one-named}
 use Rattle.memory.proofs.store_tags.Statement.{statement}
 use Rattle.memory.proofs.store_tags.Tie as tie
 
 slice-write-tags : tie.Need-slice-write-tags
-slice-write-tags c = omega (arith, one-named (c .args .pair))
+slice-write-tags c = search needs
 
 add-tags : tie.Need-add-tags
 add-tags c = search needs
 
 slice-write-tags-2 : tie.Need-slice-write-tags-2
-slice-write-tags-2 c = simp length-set (omega (arith, ap named (c .if1 .taken)))
+slice-write-tags-2 c = simp length-set (omega arith)
 
 same-length : tie.Need-same-length
 same-length c = search needs
@@ -28,7 +26,7 @@ same-length-2 : tie.Need-same-length-2
 same-length-2 c = search needs
 
 returns-2 : tie.Need-returns-2
-returns-2 c = rw (c .if1 .left)
+returns-2 c = let one : c .before .args .granules ≡ 1 = omega arith in rw one
 
 pub store-tags-spec : {M : Type 1} → statement M
 store-tags-spec =
