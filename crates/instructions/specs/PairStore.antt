@@ -21,8 +21,8 @@ storePair address low high s = storeTag address (tagOf address) (storeWord (onwa
 -- STGP
 abbrev pub stgp : Mode → ℕ → ℕ → ℕ → ℕ → State → State
 stgp mode t t2 n amount s =
-    let from = xOrSp (s .registers .x) n in
-    let address = addressOf mode from amount in
+    let rn = xOrSp (s .registers .x) n in
+    let address = addressOf mode rn amount in
     let low = xOrZero (s .registers .x) t in
     let high = xOrZero (s .registers .x) t2 in
-    writeback mode n (onward from amount) (storePair address low high s)
+    writeback mode n (onward rn amount) (storePair address low high s)

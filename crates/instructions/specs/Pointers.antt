@@ -8,8 +8,7 @@ use Rattle.isa.specs.declared.AddSubOp.the-variants.{Addg, Subg}
 use Rattle.tag.specs.PointerTags.{tagOf, withTag}
 use Rattle.tag.specs.TagChoice.{chosen}
 use Rattle.machine.specs.declared.Settings.{Settings}
-use Rattle.machine.specs.declared.Status.{Status}
-use Rattle.machine.specs.State.{State, withStatus}
+use Rattle.machine.specs.State.{State, withNzcv, withStatus}
 use Rattle.machine.specs.Registers.{xOrSp, xOrZero, toXOrSp, toXOrZero}
 
 -- the amount added or subtracted mod 2^64
@@ -63,9 +62,6 @@ difference a b = sumWithCarry (extended a) (complement (extended b)) 1
 
 abbrev pub differenceFlags : ℕ → ℕ → ℕ
 differenceFlags a b = flagsOf (extended a) (complement (extended b)) 1
-
-abbrev pub withNzcv : ℕ → Status → Status
-withNzcv nzcv status = record { nzcv = nzcv; rgsr = status .rgsr; seed = status .seed }
 
 -- SUBP: SP in Rn and Rm
 abbrev pub subp : ℕ → ℕ → ℕ → State → State

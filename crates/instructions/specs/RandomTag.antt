@@ -9,7 +9,7 @@ use Rattle.tag.specs.RandomBits.{bitsDrawn, seedDrawn}
 use Rattle.tag.specs.PointerTags.{withTag}
 use Rattle.machine.specs.declared.Settings.{Settings}
 use Rattle.machine.specs.declared.Status.{Status}
-use Rattle.machine.specs.State.{State, withStatus}
+use Rattle.machine.specs.State.{State, withRgsr, withSeed, withStatus}
 use Rattle.machine.specs.Registers.{xOrSp, xOrZero, toXOrSp}
 
 -- Exclude or the low 16 bits of Rm
@@ -22,8 +22,7 @@ randomTag status mask = chosen (status .rgsr) (bitsDrawn 4 (status .seed)) mask
 
 -- the chosen tag becomes RGSR's tag; the bits are drawn when all tags are masked too
 abbrev pub afterDraw : Status → ℕ → Status
-afterDraw status mask =
-    record { nzcv = status .nzcv; rgsr = randomTag status mask; seed = seedDrawn 4 (status .seed) }
+afterDraw status mask = withRgsr (randomTag status mask) (withSeed (seedDrawn 4 (status .seed)) status)
 
 -- with tag access off the tag is 0 and RGSR is untouched
 

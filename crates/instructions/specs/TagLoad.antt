@@ -10,9 +10,6 @@ use Rattle.machine.specs.State.{State}
 use Rattle.machine.specs.Registers.{xOrSp, xOrZero, toXOrZero}
 use Rattle.instructions.specs.Accesses.{roundedDown}
 
-abbrev pub ldgAddress : List ℕ → ℕ → ℕ → ℕ
-ldgAddress x n amount = roundedDown (onward (xOrSp x n) amount)
-
 -- a tag is the low four bits of its byte when read; with tag access off it is 0
 abbrev pub loadedTag : Settings → List ℕ → ℕ → ℕ
 loadedTag settings tags i = cond (settings .access) (getD tags i 0 % 16) 0
@@ -20,6 +17,6 @@ loadedTag settings tags i = cond (settings .access) (getD tags i 0 % 16) 0
 -- LDG
 abbrev pub ldg : ℕ → ℕ → ℕ → State → State
 ldg t n amount s =
-    let address = ldgAddress (s .registers .x) n amount in
+    let address = roundedDown (onward (xOrSp (s .registers .x) n) amount) in
     let tag = loadedTag (s .settings) (s .tags) (indexOf (s .settings .base) address) in
     toXOrZero t (withTag (xOrZero (s .registers .x) t) tag) s

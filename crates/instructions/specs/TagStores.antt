@@ -1,6 +1,6 @@
 -- STG, STZG, ST2G and STZ2G (documents 000, 002 and 004; document 01, "Stores").
 use Prim.Native.Nat.{ℕ, _*_}
-use mathlib.Core.Bool.{Bool, true, false, cond}
+use mathlib.Core.Bool.{cond}
 use lib.ListN.{set}
 use lib.Seq.{sets}
 use Rattle.isa.specs.declared.Mode.{Mode}
@@ -30,17 +30,10 @@ storeTags St2g address tag s = storeTag (onward address 16) tag (storeTag addres
 storeTags Stz2g address tag s =
     storeTag (onward address 16) tag (storeTag address tag (zeroGranule (onward address 16) (zeroGranule address s)))
 
--- ST2G and STZ2G name two granules
-abbrev pub isPair : TagStoreOp → Bool
-isPair Stg = false
-isPair Stzg = false
-isPair St2g = true
-isPair Stz2g = true
-
 -- STG, STZG, ST2G, STZ2G: the tag is that of Rt's old value
 abbrev pub tagStore : TagStoreOp → Mode → ℕ → ℕ → ℕ → State → State
 tagStore op mode t n amount s =
-    let from = xOrSp (s .registers .x) n in
-    let address = addressOf mode from amount in
+    let rn = xOrSp (s .registers .x) n in
+    let address = addressOf mode rn amount in
     let tag = tagOf (xOrSp (s .registers .x) t) in
-    writeback mode n (onward from amount) (storeTags op address tag s)
+    writeback mode n (onward rn amount) (storeTags op address tag s)
