@@ -5,12 +5,13 @@ use mathlib.Core.Bool.{true, false}
 use mathlib.Core.List.{List, []}
 use mathlib.Core.Path.{_≡_}
 use lib.ListN.{length, take, drop, getD}
+use Rattle.memory.specs.TagBytes.{tagIn}
 use Rattle.tag.specs.PointerTags.{tagOf}
 use Rattle.reach.specs.ReachablePart.{offsetOf, pointsInside, reachableOf}
 
 -- the granule of a byte of the data carries the tag
 abbrev pub Carries : ℕ → List ℕ → ℕ → Type 0
-Carries tag tags byte = getD tags (byte / 16) 0 % 16 ≡ tag
+Carries tag tags byte = tagIn (getD tags (byte / 16) 0) ≡ tag
 
 -- the data has n bytes from a place on, and their granules all carry the tag
 pub record Carried (at tag : ℕ) (bytes tags : List ℕ) (n : ℕ) : Type 0 where
