@@ -31,8 +31,8 @@ pub record Ends (at tag : ℕ) (bytes tags part : List ℕ) : Type 0 where
 
 -- what a pointer reaches: the longest part, and an empty one outside or with a broken size or base
 pub record Reaches (pointer base : ℕ) (bytes tags part : List ℕ) : Type 0 where
-  pub sound : pointsInside pointer base bytes tags ≡ true → Longest (offsetOf base pointer) (tagOf pointer) bytes tags part
-  pub broken : pointsInside pointer base bytes tags ≡ false → part ≡ []
+  pub longest-inside : pointsInside pointer base bytes tags ≡ true → Longest (offsetOf base pointer) (tagOf pointer) bytes tags part
+  pub empty-else : pointsInside pointer base bytes tags ≡ false → part ≡ []
 
 -- the definition gives such a part, and there is no other
 pub record TheReachablePart : Type 0 where
