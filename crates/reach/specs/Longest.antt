@@ -31,12 +31,14 @@ pub record Ends (at tag : ℕ) (bytes tags part : List ℕ) : Type 0 where
 
 -- what a pointer reaches: the longest part, and an empty one outside or with a broken size or base
 pub record Reaches (pointer base : ℕ) (bytes tags part : List ℕ) : Type 0 where
-  pub longest-inside : pointsInside pointer base bytes tags ≡ true → Longest (offsetOf base pointer) (tagOf pointer) bytes tags part
+  pub longest-inside : pointsInside pointer base bytes tags ≡ true
+      → Longest (offsetOf base pointer) (tagOf pointer) bytes tags part
   pub empty-else : pointsInside pointer base bytes tags ≡ false → part ≡ []
 
 -- the definition gives such a part, and there is no other
 pub record TheReachablePart : Type 0 where
-  pub reached : (pointer base : ℕ) (bytes tags : List ℕ) → Reaches pointer base bytes tags (reachableOf pointer base bytes tags)
+  pub reached : (pointer base : ℕ) (bytes tags : List ℕ)
+      → Reaches pointer base bytes tags (reachableOf pointer base bytes tags)
   pub only : (pointer base : ℕ) (bytes tags part : List ℕ) → Reaches pointer base bytes tags part
       → part ≡ reachableOf pointer base bytes tags
   pub ends : (pointer base : ℕ) (bytes tags : List ℕ) → pointsInside pointer base bytes tags ≡ true
