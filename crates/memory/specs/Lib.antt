@@ -1,3 +1,4 @@
 pub mod Locations
 pub mod Sizes
 pub mod Stores
+pub mod TagBytes

@@ -75,14 +75,14 @@ module _ (pointer base : ℕ) (bytes tags : List ℕ) where
       go : (t : Bool) → pointsInside pointer base bytes tags ≡ t → part ≡ reachableOf pointer base bytes tags
       go true h =
           same-longest (offsetOf base pointer) (tagOf pointer) bytes tags part (reachableOf pointer base bytes tags)
-          (r .sound h) (reached-longest h)
-      go false h = r .broken h ∙ sym (empty-part pointer base bytes tags h)
+          (r .longest-inside h) (reached-longest h)
+      go false h = r .empty-else h ∙ sym (empty-part pointer base bytes tags h)
 
 pub the-reachable-part : TheReachablePart
 the-reachable-part =
     record {
       reached = λ pointer base bytes tags.
-          record { sound = reached-longest pointer base bytes tags; broken = empty-part pointer base bytes tags };
+          record { longest-inside = reached-longest pointer base bytes tags; empty-else = empty-part pointer base bytes tags };
       only = only-reached;
       ends = reached-ends;
     }

@@ -5,12 +5,13 @@ use mathlib.Core.Bool.{true, false}
 use mathlib.Core.List.{List, []}
 use mathlib.Core.Path.{_≡_}
 use lib.ListN.{length, take, drop, getD}
+use Rattle.memory.specs.TagBytes.{tagIn}
 use Rattle.tag.specs.PointerTags.{tagOf}
 use Rattle.reach.specs.ReachablePart.{offsetOf, pointsInside, reachableOf}
 
 -- the granule of a byte of the data carries the tag
 abbrev pub Carries : ℕ → List ℕ → ℕ → Type 0
-Carries tag tags byte = getD tags (byte / 16) 0 % 16 ≡ tag
+Carries tag tags byte = tagIn (getD tags (byte / 16) 0) ≡ tag
 
 -- the data has n bytes from a place on, and their granules all carry the tag
 pub record Carried (at tag : ℕ) (bytes tags : List ℕ) (n : ℕ) : Type 0 where
@@ -30,12 +31,14 @@ pub record Ends (at tag : ℕ) (bytes tags part : List ℕ) : Type 0 where
 
 -- what a pointer reaches: the longest part, and an empty one outside or with a broken size or base
 pub record Reaches (pointer base : ℕ) (bytes tags part : List ℕ) : Type 0 where
-  pub sound : pointsInside pointer base bytes tags ≡ true → Longest (offsetOf base pointer) (tagOf pointer) bytes tags part
-  pub broken : pointsInside pointer base bytes tags ≡ false → part ≡ []
+  pub longest-inside : pointsInside pointer base bytes tags ≡ true
+      → Longest (offsetOf base pointer) (tagOf pointer) bytes tags part
+  pub empty-else : pointsInside pointer base bytes tags ≡ false → part ≡ []
 
 -- the definition gives such a part, and there is no other
 pub record TheReachablePart : Type 0 where
-  pub reached : (pointer base : ℕ) (bytes tags : List ℕ) → Reaches pointer base bytes tags (reachableOf pointer base bytes tags)
+  pub reached : (pointer base : ℕ) (bytes tags : List ℕ)
+      → Reaches pointer base bytes tags (reachableOf pointer base bytes tags)
   pub only : (pointer base : ℕ) (bytes tags part : List ℕ) → Reaches pointer base bytes tags part
       → part ≡ reachableOf pointer base bytes tags
   pub ends : (pointer base : ℕ) (bytes tags : List ℕ) → pointsInside pointer base bytes tags ≡ true

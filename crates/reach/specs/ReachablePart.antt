@@ -4,14 +4,15 @@ use mathlib.Core.Bool.{Bool, cond, _&&_}
 use mathlib.Core.List.{List, [], _∷_}
 use lib.Dec.{eqb}
 use lib.ListN.{length, take, drop}
-use Rattle.memory.specs.Sizes.{sizesOk}
 use Rattle.memory.specs.Locations.{location, inside}
+use Rattle.memory.specs.Sizes.{sizesOk}
+use Rattle.memory.specs.TagBytes.{tagIn}
 use Rattle.tag.specs.PointerTags.{tagOf}
 
--- how many granules in a row, from the first on, carry the tag: a granule's tag is the low four bits of its byte
+-- how many granules in a row, from the first on, carry the tag
 unfoldable pub inRow : ℕ → List ℕ → ℕ
 inRow tag [] = 0
-inRow tag (byte ∷ tags) = cond (eqb (byte % 16) tag) (suc (inRow tag tags)) 0
+inRow tag (byte ∷ tags) = cond (eqb (tagIn byte) tag) (suc (inRow tag tags)) 0
 
 -- where in the data the pointer's own byte is: it may lie inside a granule
 abbrev pub offsetOf : ℕ → ℕ → ℕ

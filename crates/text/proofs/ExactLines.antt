@@ -9,7 +9,7 @@ use borrow.Author.Tests.{eqb-true, le-ltb, leb-false, leb-true, lt-leb, lt-ltb, 
 use lib.Dec.{eqb, leb, ltb}
 use lib.ListN.{length, getD, take, drop, take-append-drop}
 use lib.Seq.{drop-cons, drop-drop}
-use Rattle.text.specs.Hex.{digitOf, hexDigits, readHex, valueOf}
+use Rattle.text.specs.Hex.{digitOf, hexDigits, readHex, digitValue}
 use Rattle.text.specs.Lines.{capped, framed, lineAt, lineText, starts}
 use Rattle.text.specs.declared.Hex.{Hex}
 use Rattle.text.specs.declared.Hex.the-variants.{Value, NotHex}
@@ -18,34 +18,34 @@ use Rattle.text.proofs.Framing.{frame-fits, line-framed, line-says, lin
 
 -- a digit is the digit of its number
 
-not-hex : (b : ℕ) → valueOf b ≡ 16 → valueOf b < 16 → digitOf (valueOf b) ≡ b
+not-hex : (b : ℕ) → digitValue b ≡ 16 → digitValue b < 16 → digitOf (digitValue b) ≡ b
 not-hex b e h = absurd (omega arith)
 
-letter-by : (b : ℕ) → 97 ≤ b → (t : Bool) → leb b 102 ≡ t → valueOf b < 16 → digitOf (valueOf b) ≡ b
-unfolding valueOf digitOf
+letter-by : (b : ℕ) → 97 ≤ b → (t : Bool) → leb b 102 ≡ t → digitValue b < 16 → digitOf (digitValue b) ≡ b
+unfolding digitValue digitOf
 letter-by b from true e h =
     let to : b ≤ 102 = leb-true b 102 e in
     simp (le-ltb b 48 (omega arith), lt-leb b 57 (omega arith), le-ltb b 97 from, e, le-ltb (b - 87) 10 (omega arith)) (omega arith)
 letter-by b from false e h = not-hex b (simp (le-ltb b 48 (omega arith), lt-leb b 57 (omega arith), le-ltb b 97 from, e)) h
 
-between-by : (b : ℕ) → 57 < b → (t : Bool) → ltb b 97 ≡ t → valueOf b < 16 → digitOf (valueOf b) ≡ b
-unfolding valueOf
+between-by : (b : ℕ) → 57 < b → (t : Bool) → ltb b 97 ≡ t → digitValue b < 16 → digitOf (digitValue b) ≡ b
+unfolding digitValue
 between-by b from true e h = not-hex b (simp (le-ltb b 48 (omega arith), lt-leb b 57 from, e)) h
 between-by b from false e h = letter-by b (ltb-false b 97 e) (leb b 102) refl h
 
-decimal-by : (b : ℕ) → 48 ≤ b → (t : Bool) → leb b 57 ≡ t → valueOf b < 16 → digitOf (valueOf b) ≡ b
-unfolding valueOf digitOf
+decimal-by : (b : ℕ) → 48 ≤ b → (t : Bool) → leb b 57 ≡ t → digitValue b < 16 → digitOf (digitValue b) ≡ b
+unfolding digitValue digitOf
 decimal-by b from true e h =
     let to : b ≤ 57 = leb-true b 57 e in
     simp (le-ltb b 48 from, e, lt-ltb (b - 48) 10 (omega arith)) (omega arith)
 decimal-by b from false e h = between-by b (leb-false b 57 e) (ltb b 97) refl h
 
-digit-by : (b : ℕ) (t : Bool) → ltb b 48 ≡ t → valueOf b < 16 → digitOf (valueOf b) ≡ b
-unfolding valueOf
+digit-by : (b : ℕ) (t : Bool) → ltb b 48 ≡ t → digitValue b < 16 → digitOf (digitValue b) ≡ b
+unfolding digitValue
 digit-by b true e h = not-hex b (simp e) h
 digit-by b false e h = decimal-by b (ltb-false b 48 e) (leb b 57) refl h
 
-digit-exact : (b : ℕ) → valueOf b < 16 → digitOf (valueOf b) ≡ b
+digit-exact : (b : ℕ) → digitValue b < 16 → digitOf (digitValue b) ≡ b
 digit-exact b h = digit-by b (ltb b 48) refl h
 
 -- the digits of a number, read one after another
@@ -66,15 +66,15 @@ unfolding readHex
 digits-from k zero w v l e = let same : w ≡ v = cc in rw (add-zero, append-nil, same)
 digits-from k (suc n) w v [] e = let z : _≡_ {A = ℕ} 0 1 = cc in absurd (omega arith)
 digits-from k (suc n) w v (b ∷ l) e =
-    let p = hex-passed (ltb (valueOf b) 16) (readHex n (w * 16 + valueOf b) l) v e in
-    let small : valueOf b < 16 = ltb-true (valueOf b) 16 (p .0) in
+    let p = hex-passed (ltb (digitValue b) 16) (readHex n (w * 16 + digitValue b) l) v e in
+    let small : digitValue b < 16 = ltb-true (digitValue b) 16 (p .0) in
     let more : k + suc n ≡ suc k + n = omega arith in
-    let digits : hexDigits (suc k) (w * 16 + valueOf b) ≡ hexDigits k w ++ (b ∷ [])
-    = digits-more k w (valueOf b) small ∙ ap (λ (d : ℕ). hexDigits k w ++ (d ∷ [])) (digit-exact b small) in
+    let digits : hexDigits (suc k) (w * 16 + digitValue b) ≡ hexDigits k w ++ (b ∷ [])
+    = digits-more k w (digitValue b) small ∙ ap (λ (d : ℕ). hexDigits k w ++ (d ∷ [])) (digit-exact b small) in
     rw more
     (sym (append-assoc (hexDigits k w) (b ∷ []) (take n l))
     ∙ ap (λ (front : List ℕ). front ++ take n l) (sym digits)
-    ∙ digits-from (suc k) n (w * 16 + valueOf b) v l (p .1))
+    ∙ digits-from (suc k) n (w * 16 + digitValue b) v l (p .1))
 
 number-exact : (n v : ℕ) (l : List ℕ) → readHex n 0 l ≡ Value v → take n l ≡ hexDigits n v
 unfolding hexDigits

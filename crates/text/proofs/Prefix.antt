@@ -9,7 +9,7 @@ use lib.ListN.{length, getD, take, drop, length-take}
 use lib.Dec.{ltb, leb, eqb}
 use lib.Seq.{take-nil, getD-take}
 use borrow.Author.Tests.{le-leb, lt-leb, leb-true, leb-false}
-use Rattle.text.specs.Hex.{valueOf, readHex}
+use Rattle.text.specs.Hex.{digitValue, readHex}
 use Rattle.text.specs.Lines.{starts, framed, lineAt}
 use Rattle.text.specs.declared.Hex.{Hex}
 use Rattle.text.specs.declared.Hex.the-variants.{NotHex}
@@ -26,7 +26,7 @@ unfolding readHex
 read-take zero v l j h = refl
 read-take (suc n) v l zero h = absurd (omega arith)
 read-take (suc n) v [] (suc j) h = refl
-read-take (suc n) v (b ∷ l) (suc j) h = ap (λ (x : Hex). cond (ltb (valueOf b) 16) x NotHex) (read-take n (v * 16 + valueOf b) l j (omega arith))
+read-take (suc n) v (b ∷ l) (suc j) h = ap (λ (x : Hex). cond (ltb (digitValue b) 16) x NotHex) (read-take n (v * 16 + digitValue b) l j (omega arith))
 
 drop-take : (a j : ℕ) (l : List ℕ) → drop a (take (a + j) l) ≡ take j (drop a l)
 drop-take zero j l = rw zero-add

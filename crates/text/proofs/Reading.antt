@@ -9,16 +9,16 @@ use native.Mathlib.Omega.{arith}
 use lib.ListN.{length, getD, drop}
 use lib.Seq.{drop-cons}
 use borrow.Author.Tests.{lt-ltb, le-ltb, eq-eqb, ne-eqb}
-use Rattle.text.specs.Hex.{valueOf, readHex}
+use Rattle.text.specs.Hex.{digitValue, readHex}
 use Rattle.text.specs.Lines.{starts}
 use Rattle.text.specs.declared.Hex.the-variants.{NotHex}
 
 module _ (s : List ℕ) (p n v : ℕ) (h : p < length s) where
-  read-one : valueOf (getD s p 0) < 16 → readHex (suc n) v (drop p s) ≡ readHex n (v * 16 + valueOf (getD s p 0)) (drop (suc p) s)
+  read-one : digitValue (getD s p 0) < 16 → readHex (suc n) v (drop p s) ≡ readHex n (v * 16 + digitValue (getD s p 0)) (drop (suc p) s)
   unfolding readHex
   read-one d = rw (drop-cons s p 0 h, lt-ltb _ _ d)
 
-  read-none : 16 ≤ valueOf (getD s p 0) → readHex (suc n) v (drop p s) ≡ NotHex
+  read-none : 16 ≤ digitValue (getD s p 0) → readHex (suc n) v (drop p s) ≡ NotHex
   unfolding readHex
   read-none d = rw (drop-cons s p 0 h, le-ltb _ _ d)
 
@@ -26,10 +26,10 @@ left-one : (n i : ℕ) → i < n → n - i ≡ suc (n - (i + 1))
 left-one n i h = omega arith
 
 -- a digit more, and a byte that is no digit
-module _ (s : List ℕ) (at n i v d : ℕ) (h : i < n) (room : at + n ≤ length s) (e : d ≡ valueOf (getD s (at + i) 0)) where
+module _ (s : List ℕ) (at n i v d : ℕ) (h : i < n) (room : at + n ≤ length s) (e : d ≡ digitValue (getD s (at + i) 0)) where
   pub read-turn : d < 16 → readHex (n - i) v (drop (at + i) s) ≡ readHex (n - (i + 1)) (v * 16 + d) (drop (at + (i + 1)) s)
   read-turn small =
-      let one : valueOf (getD s (at + i) 0) < 16 = omega arith in
+      let one : digitValue (getD s (at + i) 0) < 16 = omega arith in
       let next : suc (at + i) ≡ at + (i + 1) = omega arith in
       rw (left-one n i h, e, ← next) (read-one s (at + i) (n - (i + 1)) v (omega arith) one)
 

@@ -10,7 +10,7 @@ use lib.Dec.{ltb}
 use lib.ListN.{length, getD, drop, length-append, length-map}
 use lib.Seq.{drop-append-seam, drop-append-add, getD-append-add, getD-at}
 use borrow.Author.Tests.{lt-ltb, le-ltb, le-leb, lt-leb, eq-eqb, ltb-true, ltb-false}
-use Rattle.text.specs.Hex.{valueOf, digitOf, readHex, hexDigits, digitsText, digitsIn, lowBits}
+use Rattle.text.specs.Hex.{digitValue, digitOf, readHex, hexDigits, digitsText, digitsIn, lowBits}
 use Rattle.text.specs.Lines.{starts, framed, capped, lineText, digitsLine, digitsLineAt}
 use Rattle.text.specs.RoundTrip.{LineBack, DigitsLineBack}
 use Rattle.text.specs.declared.Hex.the-variants.{Value}
@@ -18,21 +18,21 @@ use Rattle.text.specs.declared.Line.the-variants.{Is}
 use Rattle.text.proofs.Framing.{frame-end, line-framed, capped-is}
 use Rattle.text.proofs.Writing.{length-digits, length-digits-text}
 
-low-back : (v : ℕ) → v < 10 → valueOf (digitOf v) ≡ v
-unfolding valueOf digitOf
+low-back : (v : ℕ) → v < 10 → digitValue (digitOf v) ≡ v
+unfolding digitValue digitOf
 low-back v h =
     simp (lt-ltb v 10 h, le-ltb (48 + v) 48 (omega arith), le-leb (48 + v) 57 (omega arith)) (omega arith)
 
-high-back : (v : ℕ) → 10 ≤ v → v < 16 → valueOf (digitOf v) ≡ v
-unfolding valueOf digitOf
+high-back : (v : ℕ) → 10 ≤ v → v < 16 → digitValue (digitOf v) ≡ v
+unfolding digitValue digitOf
 high-back v h k =
     simp (le-ltb v 10 h, le-ltb (87 + v) 48 (omega arith), lt-leb (87 + v) 57 (omega arith), le-ltb (87 + v) 97 (omega arith), le-leb (87 + v) 102 (omega arith)) (omega arith)
 
-digit-by : (v : ℕ) → v < 16 → (b : Bool) → ltb v 10 ≡ b → valueOf (digitOf v) ≡ v
+digit-by : (v : ℕ) → v < 16 → (b : Bool) → ltb v 10 ≡ b → digitValue (digitOf v) ≡ v
 digit-by v h true e = low-back v (ltb-true _ _ e)
 digit-by v h false e = high-back v (ltb-false _ _ e) h
 
-pub digit-back : (v : ℕ) → v < 16 → valueOf (digitOf v) ≡ v
+pub digit-back : (v : ℕ) → v < 16 → digitValue (digitOf v) ≡ v
 digit-back v h = digit-by v h (ltb v 10) refl
 
 read-digit : (m w d : ℕ) (l : List ℕ) → d < 16 → readHex (suc m) w (digitOf d ∷ l) ≡ readHex m (w * 16 + d) l
@@ -103,7 +103,7 @@ line-back key n most v before behind h k =
     ∙ capped-is most (length before + (length key + n + 1)) v k)
 
 digits-in-back : (t l : List ℕ) → digitsIn (digitsText t ++ (10 ∷ l)) ≡ lowBits t
-unfolding digitsText digitsIn lowBits valueOf
+unfolding digitsText digitsIn lowBits digitValue
 digits-in-back [] l = refl
 digits-in-back (b ∷ t) l =
     let small : b % 16 < 16 = omega arith in

@@ -5,7 +5,7 @@ ghost use mathlib.Core.Path.{_≡_};
 ghost use Prim.Native.Nat.{_+_, _≤_, _<_};
 ghost use lib.ListN.{length, drop};
 ghost use lib.Seq.{sets};
-ghost use Rattle.text.specs.Hex.{valueOf, digitOf, readHex, hexDigits, digitsText};
+ghost use Rattle.text.specs.Hex.{digitValue, digitOf, readHex, hexDigits, digitsText};
 ghost use Rattle.text.specs.Lines.{starts, framed, lineAt, lineText, digitsLine};
 
 // What some bytes spell.
@@ -22,7 +22,7 @@ pub enum Line {
 
 // The number of a lower-case hex digit, and 16 of any other byte.
 fn value(b: u8) -> u64
-    ensures { λ r. ⌜ r ≡ valueOf b ⌝ }
+    ensures { λ r. ⌜ r ≡ digitValue b ⌝ }
 {
     if b < b'0' {
         16

@@ -34,7 +34,7 @@ shared-slice-read-if1-2 c = search needs
 returns : tie.Need-returns Inv-loop μ-loop
 returns c = let l = c .before .before .before .before in
     let a = l .before .args in
-    sym (l .loop .inv .1 ∙ starts-wrong (now (a .key)) (now (a .s)) (a .at) (l .loop .i) (omega arith) (omega arith) (c .if1 .taken))
+    sym (l .loop .inv .1 ∙ starts-wrong (now (a .key)) (now (a .s)) (a .at) (l .loop .i) (omega arith) (omega arith) (λ e. omega arith))
 
 add-i : tie.Need-add-i Inv-loop μ-loop
 add-i c = search needs
@@ -46,7 +46,7 @@ loop-again : tie.Need-loop-again Inv-loop μ-loop
 loop-again c = let l = c .before .before .before .before in
     let a = l .before .args in (
       search needs,
-      l .loop .inv .1 ∙ starts-turn (now (a .key)) (now (a .s)) (a .at) (l .loop .i) (omega arith) (omega arith) (c .if1 .left),
+      l .loop .inv .1 ∙ starts-turn (now (a .key)) (now (a .s)) (a .at) (l .loop .i) (omega arith) (omega arith) (omega arith),
     )
 
 returns-2 : tie.Need-returns-2 Inv-loop μ-loop
