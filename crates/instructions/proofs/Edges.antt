@@ -7,12 +7,12 @@ use Rattle.tag.specs.RandomBits.{randomBit, nextSeed, bitsDrawn, seedDrawn}
 use Rattle.memory.specs.Locations.{allInside}
 use Rattle.memory.specs.Sizes.{sizesOk}
 use Rattle.machine.specs.Setup.{stateOk}
-use Rattle.machine.specs.Codes.{firstOf}
-use Rattle.instructions.specs.Words.{wordOutcome}
+use Rattle.machine.specs.Codes.{lowest}
+use Rattle.instructions.specs.WordOutcomes.{wordOutcome}
 use Rattle.instructions.specs.Edges.{Edges, none, more}
 
 pub edges : Edges
-unfolding lowBytes decodeOf formOf formsAt chosen skip walk randomBit nextSeed bitsDrawn seedDrawn allInside sizesOk stateOk firstOf wordOutcome
-edges x1 x2 =
+unfolding lowBytes decodeOf formOf formsAt chosen skip walk randomBit nextSeed bitsDrawn seedDrawn allInside sizesOk stateOk lowest wordOutcome
+edges x0 x1 x2 =
     more refl (more refl (more refl (more refl (more refl (more refl (more refl (more refl
     (more refl (more refl (more refl (more refl (more refl (more refl (more refl none))))))))))))))

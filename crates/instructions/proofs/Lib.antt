@@ -1,10 +1,9 @@
 -- Laws of the definitions, for the proofs here and in the crates above.
+pub mod AnswerCodes
 pub mod Differences
 pub mod Edges
-pub mod Judgement
 pub mod Outcomes
 pub mod Places
-pub mod Ranges
 pub mod Statuses
 pub mod StoreEffects
 pub mod TypedStates

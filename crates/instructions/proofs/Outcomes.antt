@@ -1,7 +1,8 @@
--- The effect of a word leaves the state of specs/Words, and it is refused with the code there. Assumes nothing.
+-- The effect of a form leaves the state that its operation gives, so a word leaves the state as it is or with its effect. Assumes
+-- nothing.
 use Prim.Native.Nat.{ℕ, _%_}
-use mathlib.Core.Bool.{Bool, true, false, cond, not}
-use mathlib.Core.Path.{_≡_, refl, ap, sym, _∙_}
+use mathlib.Core.Bool.{Bool, true, false, cond}
+use mathlib.Core.Path.{_≡_, refl, ap, sym, subst, _∙_}
 use lib.ListN.{length}
 use Rattle.isa.specs.declared.Mode.{Mode}
 use Rattle.isa.specs.declared.TwoSourceOp.the-variants.{Subp, Subps, Irg, Gmi}
@@ -10,90 +11,61 @@ use Rattle.isa.specs.declared.Form.the-variants.{AddSub, TwoSource, Ldg, TagSto
 use Rattle.isa.specs.declared.Decoded.{Decoded}
 use Rattle.isa.specs.declared.Decoded.the-variants.{Is}
 use Rattle.isa.specs.declared.Decoded.the-variants.{Undefined as NoForm}
-use Rattle.memory.specs.declared.Granule.the-variants.{At}
-use Rattle.memory.specs.declared.Granule.the-variants.{Outside as NoGranule}
-use Rattle.memory.specs.Locations.{allInside, named, granuleOf, indexOf, onward}
+use Rattle.isa.specs.Decoding.{decodeOf}
+use Rattle.memory.specs.Locations.{allInside, indexOf, onward}
 use Rattle.memory.proofs.Sizes.{Sized}
-use Rattle.machine.specs.declared.Change.{Change}
-use Rattle.machine.specs.declared.Code.{Code}
-use Rattle.machine.specs.declared.Code.the-variants.{Done, SpAlign, Align, Outside}
-use Rattle.machine.specs.declared.Effect.{Effect}
 use Rattle.machine.specs.State.{State}
 use Rattle.machine.specs.Setup.{sound}
-use Rattle.machine.specs.Codes.{firstOf}
-use Rattle.machine.specs.Registers.{xOrSp}
-use Rattle.machine.specs.Effects.{applied}
+use Rattle.machine.specs.Codes.{lowest, isDone}
+use Rattle.machine.specs.Registers.{xOrSp, xOrZero}
 use Rattle.machine.proofs.Setup.{state-sized}
-use Rattle.instructions.specs.declared.Placed.the-variants.{Nowhere}
-use Rattle.instructions.specs.Accesses.{addressOf, writeback, spMisaligned, misaligned}
-use Rattle.instructions.specs.TagLoad.{ldgAddress}
-use Rattle.instructions.specs.TagStores.{isPair}
-use Rattle.instructions.specs.Words.{anyOutside, ifDone, codeOf, carriedOut, operation}
-use Rattle.instructions.specs.Plans.{placedAt, placeOf, accept, ldgEffect, storeEffect, formPlan, planOf, planOutcome}
-use Rattle.instructions.proofs.Places.{aligned, rounded-aligned}
+use Rattle.instructions.specs.Accesses.{access, accessOf, addressOf, granulesNamed, writeback}
+use Rattle.instructions.specs.WordOutcomes.{codeOf, carriedOut, operation, wordOutcome}
+use Rattle.instructions.specs.Inside.Effects.{Change, pair, zeroing, applied, storeEffect, formEffect}
+use Rattle.instructions.specs.Inside.Places.{accessCode}
+use Rattle.instructions.proofs.Places.{accepted}
 use Rattle.instructions.proofs.StoreEffects.{stored, written-back, tags-stored, pair-stored}
 
 module _ (s : State) where
-  abbrev base : ℕ
-  base = s .settings .base
-
-  abbrev g : ℕ
-  g = length (s .tags)
-
-  abbrev register : ℕ → ℕ
-  register n = xOrSp (s .registers .x) n
-
-  abbrev accessCode : ℕ → ℕ → ℕ → Bool → Code
-  accessCode n from address pair =
-      cond (spMisaligned n from) SpAlign (cond (misaligned address) Align (cond (anyOutside s pair address) Outside Done))
-
-  -- an access is refused with this code, or has its effect on the granules that it names
-  access : (n from address : ℕ) (pair : Bool) (e : ℕ → Effect) (after : State)
-      → (misaligned address ≡ false → allInside base g (named pair) address ≡ true → applied (e (indexOf base address)) s ≡ after)
-      → planOutcome (accept (placeOf (s .settings) g n from address pair) e) s ≡ ifDone (accessCode n from address pair) after s
-  unfolding placeOf planOutcome granuleOf
-  access n from address pair e after f = go (spMisaligned n from) (misaligned address) (allInside base g (named pair) address) f
-    where
-      go : (t u v : Bool) → (u ≡ false → v ≡ true → applied (e (indexOf base address)) s ≡ after)
-          → planOutcome (accept (cond t (Nowhere SpAlign) (cond u (Nowhere Align) (placedAt (cond v (At (indexOf base address)) NoGranule)))) e) s
-          ≡ ifDone (cond t SpAlign (cond u Align (cond (not v) Outside Done))) after s
-      go true u v k = refl
-      go false true v k = refl
-      go false false true k = ap (λ (after : State). ifDone Done after s) (k refl refl)
-      go false false false k = refl
+  -- a form whose access has code 0
+  abbrev pub Accepted : Form → Type 0
+  Accepted f = isDone (accessCode (s .settings .base) (length (s .tags)) (accessOf f s)) ≡ true
 
   -- a store: its data and tags, then writeback
-  store : (mode : Mode) (n amount : ℕ) (pair : Bool) (tag : ℕ) (change : Change) (between : State) → sound s ≡ true
-      → (Sized base (length (s .bytes)) g → addressOf mode (register n) amount % 16 ≡ 0
-      → allInside base g (named pair) (addressOf mode (register n) amount) ≡ true
-      → between ≡ stored change (named pair) tag (indexOf base (addressOf mode (register n) amount)) s)
-      → planOutcome
-      (accept (placeOf (s .settings) g n (register n) (addressOf mode (register n) amount) pair)
-      (storeEffect (s .settings) (s .registers .x) (s .registers .status) mode n amount pair tag change)) s
-      ≡ ifDone (accessCode n (register n) (addressOf mode (register n) amount) pair) (writeback mode n (onward (register n) amount) between) s
-  store mode n amount pair tag change between h f =
-      let rules = state-sized (s .settings) (s .registers .status) (length (s .bytes)) g h in
-      access n _ _ pair _ _
-      (λ u v. sym (ap (writeback mode n (onward (register n) amount)) (f rules (aligned _ u) v) ∙ written-back mode n _ _))
+  store : (mode : Mode) (n amount granules tag : ℕ) (change : Change) (between : State) → sound s ≡ true
+      → isDone (accessCode (s .settings .base) (length (s .tags)) (access n (xOrSp (s .registers .x) n) (addressOf mode (xOrSp (s .registers .x) n) amount) 16 granules true)) ≡ true
+      → (Sized (s .settings .base) (length (s .bytes)) (length (s .tags)) → addressOf mode (xOrSp (s .registers .x) n) amount % 16 ≡ 0
+      → allInside (s .settings .base) (length (s .tags)) granules (addressOf mode (xOrSp (s .registers .x) n) amount) ≡ true
+      → between ≡ stored change granules tag (indexOf (s .settings .base) (addressOf mode (xOrSp (s .registers .x) n) amount)) s)
+      → applied (storeEffect mode n amount granules tag change s) s ≡ writeback mode n (onward (xOrSp (s .registers .x) n) amount) between
+  store mode n amount granules tag change between h k f =
+      let rn = xOrSp (s .registers .x) n in
+      let rules = state-sized (s .settings) (s .registers .status) (length (s .bytes)) (length (s .tags)) h in
+      let (z, v) = accepted (s .settings .base) (length (s .tags)) n rn (addressOf mode rn amount) 16 granules true k in
+      sym (ap (writeback mode n (onward rn amount)) (f rules z v) ∙ written-back mode n _ _)
 
-  form-outcome : (f : Form) → sound s ≡ true
-      → planOutcome (formPlan (s .settings) (s .registers .x) (s .registers .status) (s .tags) f) s ≡ ifDone (codeOf true (Is f) s) (operation f s) s
-  unfolding planOutcome firstOf
-  form-outcome (AddSub op d n amount offset) h = refl
-  form-outcome (TwoSource Subp d n m) h = refl
-  form-outcome (TwoSource Subps d n m) h = refl
-  form-outcome (TwoSource Irg d n m) h = refl
-  form-outcome (TwoSource Gmi d n m) h = refl
-  form-outcome (Ldg t n amount) h =
-      rw (rounded-aligned (onward (register n) amount)) at
-      (access n (register n) (ldgAddress (s .registers .x) n amount) false
-      (ldgEffect (s .settings) (s .registers .x) (s .registers .status) (s .tags) t) (operation (Ldg t n amount) s) (λ u v. refl))
-  form-outcome (TagStore op mode t n amount) h = store mode n amount (isPair op) _ _ _ h (λ rules z v. tags-stored _ s rules z op _ v)
-  form-outcome (Stgp mode t t2 n amount) h = store mode n amount false _ _ _ h (λ rules z v. pair-stored _ s rules z _ _ v)
+  pub form-outcome : (f : Form) → sound s ≡ true → Accepted f → applied (formEffect f s) s ≡ operation f s
+  form-outcome (AddSub op d n amount offset) h k = refl
+  form-outcome (TwoSource Subp d n m) h k = refl
+  form-outcome (TwoSource Subps d n m) h k = refl
+  form-outcome (TwoSource Irg d n m) h k = refl
+  form-outcome (TwoSource Gmi d n m) h k = refl
+  form-outcome (Ldg t n amount) h k = refl
+  form-outcome (TagStore op mode t n amount) h k =
+      store mode n amount (granulesNamed op) _ (zeroing op) _ h k (λ rules z v. tags-stored _ s rules z op _ v)
+  form-outcome (Stgp mode t t2 n amount) h k = store mode n amount 1 _ (pair (xOrZero (s .registers .x) t) (xOrZero (s .registers .x) t2)) _ h k (λ rules z v. pair-stored _ s rules z _ _ v)
 
-pub plan-outcome : (s : State) (decoded : Decoded) → sound s ≡ true
-    → planOutcome (planOf (s .settings) (s .registers .x) (s .registers .status) (s .tags) decoded) s
-    ≡ ifDone (codeOf true decoded s) (carriedOut decoded s) s
-unfolding planOf planOutcome firstOf
-plan-outcome s (Is f) h = form-outcome s f h
-plan-outcome s NoForm h = refl
+-- a word leaves the state as it is, or with the effect of its form
+pub word-either : (P : State → Type 0) (w : ℕ) (s : State) → sound s ≡ true → P s
+    → ((f : Form) → decodeOf w ≡ Is f → Accepted s f → P (applied (formEffect f s) s)) → P (wordOutcome true w s .state)
+unfolding wordOutcome lowest
+word-either P w s h same after = go (decodeOf w) refl
+  where
+    form : (f : Form) → decodeOf w ≡ Is f → (t : Bool) → isDone (accessCode (s .settings .base) (length (s .tags)) (accessOf f s)) ≡ t
+        → P (cond t (operation f s) s)
+    form f e true k = subst P (form-outcome s f h k) (after f e k)
+    form f e false k = same
+
+    go : (d : Decoded) → decodeOf w ≡ d → P (cond (isDone (codeOf true d s)) (carriedOut d s) s)
+    go (Is f) e = form f e (isDone (accessCode (s .settings .base) (length (s .tags)) (accessOf f s))) refl
+    go NoForm e = same

@@ -14,20 +14,17 @@ use Rattle.isa.specs.declared.Mode.the-variants.{Post, Pre, Offset}
 use Rattle.isa.specs.declared.TagStoreOp.{TagStoreOp}
 use Rattle.isa.specs.declared.TagStoreOp.the-variants.{Stg, Stzg, St2g, Stz2g}
 use Rattle.tag.specs.PointerTags.{tagOf}
-use Rattle.memory.specs.Locations.{indexOf, onward, allInside, named}
+use Rattle.memory.specs.Locations.{indexOf, onward, allInside}
 use Rattle.memory.specs.Stores.{zeroBytes, pairBytes}
 use Rattle.memory.proofs.Sizes.{Sized}
 use Rattle.memory.proofs.Locations.{all-first, next-index, first-word, second-word}
 use Rattle.memory.proofs.Lists.{sets-append}
-use Rattle.machine.specs.declared.Change.{Change}
-use Rattle.machine.specs.declared.Change.the-variants.{Keep, Pair}
 use Rattle.machine.specs.State.{State, withX, withBytes, withTags}
 use Rattle.machine.specs.Registers.{written}
-use Rattle.machine.specs.Effects.{newBytes, newTags}
-use Rattle.instructions.specs.Accesses.{writeback, writebackTo}
-use Rattle.instructions.specs.TagStores.{storeTag, storeTags, isPair}
+use Rattle.instructions.specs.Accesses.{writeback, writebackTo, granulesNamed}
+use Rattle.instructions.specs.TagStores.{storeTag, storeTags}
 use Rattle.instructions.specs.PairStore.{storePair}
-use Rattle.instructions.specs.Plans.{zeroing}
+use Rattle.instructions.specs.Inside.Effects.{Change, kept, pair, newBytes, newTags, zeroing}
 
 pub written-back : (mode : Mode) (n v : ℕ) (s : State) → writeback mode n v s ≡ withX (written (s .registers .x) (writebackTo mode n) v) s
 written-back Post n v s = refl
@@ -38,28 +35,28 @@ written-back Offset n v s = refl
 abbrev pub stored : Change → ℕ → ℕ → ℕ → State → State
 stored change granules tag i s =
     withBytes (sets (s .bytes) (16 * i) (newBytes change granules))
-    (withTags (sets (s .tags) i (newTags granules (s .settings .access) tag tag)) s)
+    (withTags (sets (s .tags) i (newTags granules (s .settings .access) tag)) s)
 
 -- one tag is a run of one, of none with tag access off
 tag-stored : (address tag : ℕ) (s : State)
-    → storeTag address tag s ≡ withTags (sets (s .tags) (indexOf (s .settings .base) address) (newTags 1 (s .settings .access) tag tag)) s
+    → storeTag address tag s ≡ withTags (sets (s .tags) (indexOf (s .settings .base) address) (newTags 1 (s .settings .access) tag)) s
 tag-stored address tag s = go (s .settings .access)
   where
     go : (t : Bool) → cond t (withTags (set (s .tags) (indexOf (s .settings .base) address) tag) s) s
-        ≡ withTags (sets (s .tags) (indexOf (s .settings .base) address) (newTags 1 t tag tag)) s
+        ≡ withTags (sets (s .tags) (indexOf (s .settings .base) address) (newTags 1 t tag)) s
     go true = refl
     go false = refl
 
 -- two granules one by one are one run
 
 next-tags : (tags : List ℕ) (i j tag : ℕ) (t : Bool) → j ≡ i + 1
-    → sets (sets tags i (newTags 1 t tag tag)) j (newTags 1 t tag tag) ≡ sets tags i (newTags 2 t tag tag)
+    → sets (sets tags i (newTags 1 t tag)) j (newTags 1 t tag) ≡ sets tags i (newTags 2 t tag)
 next-tags tags i j tag true e = rw (e, add-one)
 next-tags tags i j tag false e = refl
 
 two-tags-stored : (address tag : ℕ) (s : State) → indexOf (s .settings .base) (onward address 16) ≡ indexOf (s .settings .base) address + 1
     → storeTag (onward address 16) tag (storeTag address tag s)
-    ≡ withTags (sets (s .tags) (indexOf (s .settings .base) address) (newTags 2 (s .settings .access) tag tag)) s
+    ≡ withTags (sets (s .tags) (indexOf (s .settings .base) address) (newTags 2 (s .settings .access) tag)) s
 two-tags-stored address tag s e =
     ap (storeTag (onward address 16) tag) (tag-stored address tag s) ∙ tag-stored (onward address 16) tag _
     ∙ ap (λ (tags : List ℕ). withTags tags s) (next-tags (s .tags) _ _ tag (s .settings .access) e)
@@ -79,23 +76,23 @@ next-word bytes a b i low high e f = rw (e, f) (sym (rw (low-bytes-length 8 low)
 module _ (address : ℕ) (s : State) (rules : Sized (s .settings .base) (length (s .bytes)) (length (s .tags))) (z : address % 16 ≡ 0) where
   next : allInside (s .settings .base) (length (s .tags)) 2 address ≡ true
       → indexOf (s .settings .base) (onward address 16) ≡ indexOf (s .settings .base) address + 1
-  next h = next-index (s .settings .base) (length (s .bytes)) (length (s .tags)) address rules z h
+  next h = next-index (s .settings .base) (length (s .bytes)) (length (s .tags)) 0 address rules z h
 
-  pub tags-stored : (op : TagStoreOp) (tag : ℕ) → allInside (s .settings .base) (length (s .tags)) (named (isPair op)) address ≡ true
-      → storeTags op address tag s ≡ stored (zeroing op) (named (isPair op)) tag (indexOf (s .settings .base) address) s
+  pub tags-stored : (op : TagStoreOp) (tag : ℕ) → allInside (s .settings .base) (length (s .tags)) (granulesNamed op) address ≡ true
+      → storeTags op address tag s ≡ stored (zeroing op) (granulesNamed op) tag (indexOf (s .settings .base) address) s
   tags-stored Stg tag h = tag-stored address tag s
   tags-stored Stzg tag h = tag-stored address tag _
   tags-stored St2g tag h = two-tags-stored address tag s (next h)
   tags-stored Stz2g tag h =
       two-tags-stored address tag _ (next h)
-      ∙ ap (λ (bytes : List ℕ). withBytes bytes (stored Keep 2 tag (indexOf (s .settings .base) address) s)) (next-zeros (s .bytes) _ _ (next h))
+      ∙ ap (λ (bytes : List ℕ). withBytes bytes (stored kept 2 tag (indexOf (s .settings .base) address) s)) (next-zeros (s .bytes) _ _ (next h))
 
   pub pair-stored : (low high : ℕ) → allInside (s .settings .base) (length (s .tags)) 1 address ≡ true
-      → storePair address low high s ≡ stored (Pair low high) 1 (tagOf address) (indexOf (s .settings .base) address) s
+      → storePair address low high s ≡ stored (pair low high) 1 (tagOf address) (indexOf (s .settings .base) address) s
   pair-stored low high h =
       let first = first-word (s .settings .base) address (rules .aligned) z in
       let second = second-word (s .settings .base) (length (s .tags)) address (rules .aligned) z
-      (all-first (s .settings .base) (length (s .tags)) address false h) in
+      (all-first (s .settings .base) (length (s .tags)) 0 address h) in
       tag-stored address (tagOf address) _
-      ∙ ap (λ (bytes : List ℕ). withBytes bytes (stored Keep 1 (tagOf address) (indexOf (s .settings .base) address) s))
+      ∙ ap (λ (bytes : List ℕ). withBytes bytes (stored kept 1 (tagOf address) (indexOf (s .settings .base) address) s))
       (next-word (s .bytes) _ _ _ low high first second)

@@ -1,31 +1,27 @@
 -- A word leaves the seed, the data bytes and the tag bytes within their widths. Assumes nothing.
 use Prim.Native.Nat.{ℕ, zero, suc, _*_, _/_, _^_, _<_}
-use mathlib.Core.Bool.{Bool, true, false, cond}
+use mathlib.Core.Bool.{Bool, true, false}
 use mathlib.Core.List.{List, [], _∷_, _++_}
-use mathlib.Core.Path.{_≡_, subst}
+use mathlib.Core.Path.{_≡_}
 use native.Mathlib.Nat.{mod-lt}
 use native.Mathlib.Omega.{arith}
-use lib.Dec.{eqb}
 use lib.ListN.{getD, replicate, set}
 use lib.Seq.{sets}
 use Rattle.bits.specs.LittleEndian.{lowBytes, bytesOf}
-use Rattle.isa.specs.Decoding.{decodeOf}
+use Rattle.bits.proofs.Fields.{field-lt}
+use Rattle.isa.specs.declared.TwoSourceOp.the-variants.{Subp, Subps, Irg, Gmi}
+use Rattle.isa.specs.declared.Form.{Form}
+use Rattle.isa.specs.declared.Form.the-variants.{AddSub, TwoSource, Ldg, TagStore, Stgp}
 use Rattle.tag.proofs.RandomBits.{seed-lt}
-use Rattle.memory.specs.Stores.{pairBytes, savedBytes, tagBytes}
-use Rattle.machine.specs.declared.Change.{Change}
-use Rattle.machine.specs.declared.Change.the-variants.{Keep, Zero, Pair, Words}
-use Rattle.machine.specs.declared.Effect.{Effect}
+use Rattle.memory.specs.Stores.{pairBytes, equalTags}
 use Rattle.machine.specs.State.{State, Typed}
 use Rattle.machine.specs.Setup.{sound}
-use Rattle.machine.specs.Effects.{newBytes, newTags}
-use Rattle.instructions.specs.declared.Judged.{Judged}
-use Rattle.instructions.specs.declared.Judged.the-variants.{Refused, Accepted}
-use Rattle.instructions.specs.Words.{Outcome, wordOutcome}
-use Rattle.instructions.specs.Plans.{planOf, planOutcome, IfAccepted}
-use Rattle.instructions.proofs.Judgement.{fits}
-use Rattle.instructions.proofs.Statuses.{plan-status}
-use Rattle.instructions.proofs.Ranges.{NumbersInRange, plan-numbers}
-use Rattle.instructions.proofs.WellFormed.{planned}
+use Rattle.machine.specs.Registers.{xOrSp}
+use Rattle.instructions.specs.Accesses.{addressOf}
+use Rattle.instructions.specs.WordOutcomes.{wordOutcome}
+use Rattle.instructions.specs.Inside.Effects.{Change, kept, zeroed, pair, newBytes, newTags, formEffect}
+use Rattle.instructions.proofs.Outcomes.{word-either}
+use Rattle.instructions.proofs.Statuses.{form-status}
 
 abbrev Bytes : List ℕ → Type 0
 Bytes l = (i : ℕ) → getD l i 0 < 2 ^ 8
@@ -64,47 +60,45 @@ zero-bytes (suc n) (suc i) = zero-bytes n i
 pair-bytes : (low high : ℕ) → Bytes (pairBytes low high)
 pair-bytes low high = append-bytes (bytesOf low) (bytesOf high) (low-bytes 8 low) (low-bytes 8 high)
 
-saved-bytes : (pair : Bool) (a b c d : ℕ) → Bytes (savedBytes pair a b c d)
-saved-bytes true a b c d = append-bytes (pairBytes a b) (pairBytes c d) (pair-bytes a b) (pair-bytes c d)
-saved-bytes false a b c d = pair-bytes a b
-
 new-bytes : (change : Change) (n : ℕ) → Bytes (newBytes change n)
-new-bytes Keep n = λ i. omega arith
-new-bytes Zero n = zero-bytes (16 * n)
-new-bytes (Pair low high) n = pair-bytes low high
-new-bytes (Words a b c d) n = saved-bytes (eqb n 2) a b c d
+new-bytes kept n = λ i. omega arith
+new-bytes zeroed n = zero-bytes (16 * n)
+new-bytes (pair low high) n = pair-bytes low high
 
-new-tags : (n : ℕ) (tagged : Bool) (tag second : ℕ) → tag < 16 → second < 16 → Bytes (newTags n tagged tag second)
-new-tags n tagged tag second p q = go (eqb n 2) tagged
-  where
-    go : (pair t : Bool) → Bytes (cond t (tagBytes pair tag second) [])
-    go pair false i = omega arith
-    go true true zero = omega arith
-    go true true (suc zero) = omega arith
-    go true true (suc (suc i)) = omega arith
-    go false true zero = omega arith
-    go false true (suc i) = omega arith
+-- the tags that it stores are tags
 
-abbrev LeavesSeed : Effect → Type 0
-LeavesSeed e = e .status .seed < 2 ^ 16
+equal-tags : (n tag : ℕ) → tag < 2 ^ 8 → Bytes (equalTags n tag)
+equal-tags zero tag h i = omega arith
+equal-tags (suc n) tag h zero = h
+equal-tags (suc n) tag h (suc i) = equal-tags n tag h i
 
-plan-typed : (j : Judged) (s : State) → Typed s → IfAccepted NumbersInRange j → IfAccepted LeavesSeed j → Typed (planOutcome j s .state)
-unfolding planOutcome
-plan-typed (Refused code) s t numbers seed = t
-plan-typed (Accepted e) s t numbers seed =
-    record {
-      seed = seed;
-      bytes = sets-bytes (newBytes (e .change) (e .granules)) (s .bytes) (16 * e .first) (t .bytes) (new-bytes (e .change) (e .granules));
-      tags =
-          sets-bytes (newTags (e .granules) (e .tagged) (e .tag) (e .second)) (s .tags) (e .first) (t .tags)
-          (new-tags (e .granules) (e .tagged) (e .tag) (e .second) (numbers .tag) (numbers .second));
-    }
+new-tags : (n tag : ℕ) (tagged : Bool) → tag < 2 ^ 8 → Bytes (newTags n tagged tag)
+new-tags n tag true h = equal-tags n tag h
+new-tags n tag false h = λ i. omega arith
+
+form-tag : (f : Form) (s : State) → formEffect f s .tag < 2 ^ 8
+form-tag (AddSub op d n amount offset) s = omega arith
+form-tag (TwoSource Subp d n m) s = omega arith
+form-tag (TwoSource Subps d n m) s = omega arith
+form-tag (TwoSource Irg d n m) s = omega arith
+form-tag (TwoSource Gmi d n m) s = omega arith
+form-tag (Ldg t n amount) s = omega arith
+form-tag (TagStore op mode t n amount) s = omega (arith, field-lt (xOrSp (s .registers .x) t) 56 4)
+form-tag (Stgp mode t t2 n amount) s = omega (arith, field-lt (addressOf mode (xOrSp (s .registers .x) n) amount) 56 4)
+
+form-seed : (s : State) → Typed s → (f : Form) → formEffect f s .status .seed < 2 ^ 16
+form-seed s t =
+    form-status (λ status. status .seed < 2 ^ 16) s (t .seed) (λ flags k. t .seed) (λ mask. seed-lt (s .registers .status .seed) (t .seed))
 
 pub word-typed : (w : ℕ) (s : State) → sound s ≡ true → Typed s → Typed (wordOutcome true w s .state)
 word-typed w s h t =
-    let status = s .registers .status in
-    subst (λ (o : Outcome). Typed (o .state)) (planned w s h)
-    (plan-typed (planOf (s .settings) (s .registers .x) status (s .tags) (decodeOf w)) s t
-    (plan-numbers (s .settings) (s .registers .x) status (s .tags) (decodeOf w) (fits w))
-    (plan-status (λ status. status .seed < 2 ^ 16) (s .settings) (s .registers .x) status (s .tags)
-    (t .seed) (λ flags k. t .seed) (λ mask. seed-lt (status .seed) (t .seed)) (decodeOf w)))
+    word-either Typed w s h t
+    (λ f p k.
+    let e = formEffect f s in
+    record {
+      seed = form-seed s t f;
+      bytes = sets-bytes (newBytes (e .change) (e .granules)) (s .bytes) (16 * e .first) (t .bytes) (new-bytes (e .change) (e .granules));
+      tags =
+          sets-bytes (newTags (e .granules) (e .tagged) (e .tag)) (s .tags) (e .first) (t .tags)
+          (new-tags (e .granules) (e .tag) (e .tagged) (form-tag f s));
+    })

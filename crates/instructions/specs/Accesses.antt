@@ -2,8 +2,8 @@
 -- order").
 use Prim.Native.Nat.{ℕ, _-_, _%_}
 use mathlib.Core.Bool.{Bool, true, false, not, _&&_}
+use mathlib.Core.List.{List, [], _∷_}
 use lib.Dec.{eqb}
-use lib.ListN.{length}
 use Rattle.isa.specs.declared.Mode.{Mode}
 use Rattle.isa.specs.declared.Mode.the-variants.{Post, Pre, Offset}
 use Rattle.isa.specs.declared.TagStoreOp.{TagStoreOp}
@@ -11,6 +11,8 @@ use Rattle.isa.specs.declared.TagStoreOp.the-variants.{Stg, Stzg, St2g, Stz2g}
 use Rattle.isa.specs.declared.Form.{Form}
 use Rattle.isa.specs.declared.Form.the-variants.{AddSub, TwoSource, Ldg, TagStore, Stgp}
 use Rattle.memory.specs.Locations.{onward, allInside}
+use Rattle.machine.specs.declared.Code.the-variants.{SpAlign, Align, Outside}
+use Rattle.machine.specs.Codes.{Check, check}
 use Rattle.machine.specs.State.{State}
 use Rattle.machine.specs.Registers.{xOrSp, toXOrSp}
 
@@ -67,7 +69,11 @@ abbrev pub misaligned : Access → Bool
 misaligned noAccess = false
 misaligned (access n rn address multiple granules stores) = not (eqb (address % multiple) 0)
 
--- OUTSIDE: a named granule lies outside base to base + 16 × G, tag access on or off
-abbrev pub outside : State → Access → Bool
-outside s noAccess = false
-outside s (access n rn address multiple granules stores) = not (allInside (s .settings .base) (length (s .tags)) granules address)
+-- OUTSIDE: a named granule lies outside base to base + 16 × g, tag access on or off
+abbrev pub outside : ℕ → ℕ → Access → Bool
+outside base g noAccess = false
+outside base g (access n rn address multiple granules stores) = not (allInside base g granules address)
+
+-- the refusals of an access, in the order of their numbers
+abbrev pub accessChecks : ℕ → ℕ → Access → List Check
+accessChecks base g a = check SpAlign (spMisaligned a) ∷ check Align (misaligned a) ∷ check Outside (outside base g a) ∷ []

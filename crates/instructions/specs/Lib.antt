@@ -1,9 +1,10 @@
+pub mod Accesses
 pub mod Pointers
 pub mod RandomTag
-pub mod Accesses
 pub mod TagLoad
 pub mod TagStores
 pub mod PairStore
-pub mod Words
-pub mod Plans
+pub mod WordOutcomes
+pub mod AnswerCodes
 pub mod Edges
+pub mod Inside

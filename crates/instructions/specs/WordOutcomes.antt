@@ -1,7 +1,8 @@
 -- One word on a state: its code, and the state after it (document 01, "What each word does", "Codes and their order").
 use Prim.Native.Nat.{ℕ}
 use mathlib.Core.Bool.{Bool, true, false, cond, not}
-use mathlib.Core.List.{List, [], _∷_}
+use mathlib.Core.List.{List, _∷_}
+use lib.ListN.{length}
 use Rattle.isa.specs.declared.TwoSourceOp.{TwoSourceOp}
 use Rattle.isa.specs.declared.TwoSourceOp.the-variants.{Subp, Subps, Irg, Gmi}
 use Rattle.isa.specs.declared.Form.{Form}
@@ -11,10 +12,10 @@ use Rattle.isa.specs.declared.Decoded.the-variants.{Is}
 use Rattle.isa.specs.declared.Decoded.the-variants.{Undefined as NoForm}
 use Rattle.isa.specs.Decoding.{decodeOf}
 use Rattle.machine.specs.declared.Code.{Code}
-use Rattle.machine.specs.declared.Code.the-variants.{Setup, Undefined, SpAlign, Align, Outside}
+use Rattle.machine.specs.declared.Code.the-variants.{Setup, Undefined}
 use Rattle.machine.specs.State.{State}
 use Rattle.machine.specs.Codes.{Check, check, lowest, isDone}
-use Rattle.instructions.specs.Accesses.{Access, noAccess, accessOf, spMisaligned, misaligned, outside}
+use Rattle.instructions.specs.Accesses.{Access, noAccess, accessOf, accessChecks}
 use Rattle.instructions.specs.Pointers.{addSub, subp, subps, gmi}
 use Rattle.instructions.specs.RandomTag.{irg}
 use Rattle.instructions.specs.TagLoad.{ldg}
@@ -50,13 +51,12 @@ abbrev pub accessIn : Decoded → State → Access
 accessIn NoForm s = noAccess
 accessIn (Is f) s = accessOf f s
 
--- the refusals of an access, in the order of their numbers
-abbrev pub accessChecks : State → Access → List Check
-accessChecks s a = check SpAlign (spMisaligned a) ∷ check Align (misaligned a) ∷ check Outside (outside s a) ∷ []
-
--- the refusals of a word, on a setup that keeps its rules or does not
+-- the refusals of a word in the order of their numbers, on a setup that keeps its rules or does not
 abbrev pub wordChecks : Bool → Decoded → State → List Check
-wordChecks setup decoded s = check Setup (not setup) ∷ check Undefined (isUndefined decoded) ∷ accessChecks s (accessIn decoded s)
+wordChecks setup decoded s =
+    check Setup (not setup)
+    ∷ check Undefined (isUndefined decoded)
+    ∷ accessChecks (s .settings .base) (length (s .tags)) (accessIn decoded s)
 
 abbrev pub codeOf : Bool → Decoded → State → Code
 codeOf setup decoded s = lowest (wordChecks setup decoded s)

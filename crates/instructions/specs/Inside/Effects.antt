@@ -17,15 +17,12 @@ use Rattle.tag.specs.PointerTags.{tagOf, withTag}
 use Rattle.memory.specs.Locations.{indexOf, onward}
 use Rattle.memory.specs.Stores.{zeroBytes, pairBytes, equalTags}
 use Rattle.machine.specs.declared.Status.{Status}
-use Rattle.machine.specs.declared.Code.{Code}
 use Rattle.machine.specs.State.{State, stateOf, withNzcv}
 use Rattle.machine.specs.Registers.{xOrSp, xOrZero, orNone, written}
-use Rattle.machine.specs.Codes.{lowest}
-use Rattle.instructions.specs.Accesses.{addressOf, roundedDown, granulesNamed, writebackTo, Access}
+use Rattle.instructions.specs.Accesses.{addressOf, roundedDown, granulesNamed, writebackTo}
 use Rattle.instructions.specs.Pointers.{addSubResult, difference, differenceFlags, withTagBit}
 use Rattle.instructions.specs.RandomTag.{irgTag, irgStatus, irgMask}
 use Rattle.instructions.specs.TagLoad.{loadedTag}
-use Rattle.instructions.specs.WordOutcomes.{accessChecks}
 
 -- what becomes of the data of an effect's granules
 pub data Change : Type 0 where
@@ -135,7 +132,3 @@ formEffect (TagStore op mode t n amount) s =
 formEffect (Stgp mode t t2 n amount) s =
     let x = s .registers .x in
     storeEffect mode n amount 1 (tagOf (addressOf mode (xOrSp x n) amount)) (pair (xOrZero x t) (xOrZero x t2)) s
-
--- the refusal of an access, DONE if it is accepted
-abbrev pub accessCode : State → Access → Code
-accessCode s a = lowest (accessChecks s a)

@@ -3,9 +3,6 @@ use borrow.Author.Needs.{needs}
 use Rattle.instructions.proofs.pointers.add_sub.Statement.{statement}
 use Rattle.instructions.proofs.pointers.add_sub.Tie as tie
 
-x-or-sp-requires : tie.Need-x-or-sp-requires
-x-or-sp-requires c κs = search needs
-
 moved-by-requires : tie.Need-moved-by-requires
 moved-by-requires c κs = search needs
 
@@ -21,9 +18,6 @@ choose-or-0-requires c κs = search needs
 with-tag-requires : tie.Need-with-tag-requires
 with-tag-requires c κs = search needs
 
-register-effect-requires : tie.Need-register-effect-requires
-register-effect-requires c κs = search needs
-
 returns : tie.Need-returns
 returns c = cc
 
@@ -31,11 +25,9 @@ pub add-sub-spec : {M : Type 1} → statement M
 add-sub-spec =
     tie.close
     (tie.spec
-    x-or-sp-requires
     moved-by-requires
     tag-of-requires
     cast-choose-or-0
     choose-or-0-requires
     with-tag-requires
-    register-effect-requires
     returns)

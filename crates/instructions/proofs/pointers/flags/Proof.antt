@@ -33,9 +33,6 @@ add-result c = search needs
 add-result-2 : tie.Need-add-result-2
 add-result-2 c = search needs
 
-cast-result : tie.Need-cast-result
-cast-result c = search needs
-
 returns : tie.Need-returns
 returns c =
     let a = c .before .before .before .before .before .before .args .a in
@@ -44,9 +41,11 @@ returns c =
     let right = difference .before .extend2 .ensures in
     let left = difference .before .before .extend .ensures in
     let r = difference .wrapping-sub-u64 .result in
-    let e = rw (right, left) at (difference .wrapping-sub-u64 .ensures) in
-    rw (c .before .before .field .ensures, c .before .flag .ensures .0, rw (right, left) at (c .flag2 .ensures .0))
-    (difference-flags a b r (complemented r (extended a) (extended b) (omega arith) (extended-lt b) e))
+    let e = rw (right, left) at (difference .wrapping-sub-u64 .ensures) in (
+      rw (c .before .before .field .ensures, c .before .flag .ensures .0, rw (right, left) at (c .flag2 .ensures .0))
+          (difference-flags a b r (complemented r (extended a) (extended b) (omega arith) (extended-lt b) e)),
+      omega arith,
+    )
 
 pub flags-spec : {M : Type 1} → statement M
 flags-spec =
@@ -61,5 +60,4 @@ flags-spec =
     mul-result
     add-result
     add-result-2
-    cast-result
     returns)

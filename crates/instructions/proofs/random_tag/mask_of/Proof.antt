@@ -3,9 +3,6 @@ use borrow.Author.Needs.{needs}
 use Rattle.instructions.proofs.random_tag.mask_of.Statement.{statement}
 use Rattle.instructions.proofs.random_tag.mask_of.Tie as tie
 
-x-or-zero-requires : tie.Need-x-or-zero-requires
-x-or-zero-requires c κs = search needs
-
 field-requires : tie.Need-field-requires
 field-requires c κs = search needs
 
@@ -16,4 +13,4 @@ returns : tie.Need-returns
 returns c = cc
 
 pub mask-of-spec : {M : Type 1} → statement M
-mask-of-spec = tie.close (tie.spec x-or-zero-requires field-requires cast-result returns)
+mask-of-spec = tie.close (tie.spec field-requires cast-result returns)
