@@ -9,15 +9,16 @@ use lib.ListN.{length, getD}
 use borrow.Author.Tests.{eqb-true, eqb-false, le-ltb, ne-eqb}
 use Rattle.bits.proofs.Fields.{bits, lows-up, lows-ends}
 use Rattle.machine.specs.declared.Status.{Status}
+use Rattle.machine.specs.State.{freshStatus, withNzcv, withRgsr, withSeed}
 use Rattle.history.specs.Records.{Entry, wordsOf, entryIn}
 use Rattle.history.specs.BadRecords.{notZero, outOfRange, valueNotZero, tagsNotZero, dataNotZero, dataOfNone, beyond, gapNotZero, malformed}
-use Rattle.history.specs.WellFormedRecords.{OldRegister, register, noRegister, OldGranules, noGranules, one, oneSaved, two, twoSaved, Held, registerFits, granulesFit, WellFormed, numberOf, valueOf, placesOf, withGranules, entryHeld, recordWords, EightWords, ExactRecords}
+use Rattle.history.specs.WellFormedRecords.{OldRegister, register, noRegister, OldGranules, noGranules, one, oneSaved, two, twoSaved, Held, registerFits, granulesFit, WellFormed, registerNumber, registerValue, placesOf, withGranules, entryHeld, recordWords, EightWords, ExactRecords}
 use Rattle.history.proofs.Packing.{Fits, entry-back, gaps-zero}
 use Rattle.history.proofs.Rules.{Rules, rules, gaps}
 
 -- a well-formed record is accepted
 
-register-passes : (r : OldRegister) → registerFits r → (numberOf r ≤ 32) × ((eqb (numberOf r) 32 && notZero (valueOf r)) ≡ false)
+register-passes : (r : OldRegister) → registerFits r → (registerNumber r ≤ 32) × ((eqb (registerNumber r) 32 && notZero (registerValue r)) ≡ false)
 register-passes (register n value) f = (omega arith, rw (ne-eqb n 32 (omega arith)))
 register-passes noRegister f = (omega arith, refl)
 
@@ -42,8 +43,8 @@ module _ (g n value : ℕ) (status : Status) where
 accepts : (g : ℕ) (h : Held) → WellFormed g h → malformed g (recordWords h) ≡ false
 unfolding recordWords malformed
 accepts g h f =
-    let n = numberOf (h .register) in
-    let v = valueOf (h .register) in
+    let n = registerNumber (h .register) in
+    let v = registerValue (h .register) in
     let p = register-passes (h .register) (f .register) in
     let fits = places-fit g n v (h .status) (h .granules) (f .granules) (p .0) (f .nzcv) (f .rgsr) (f .seed) in
     rw (entry-back (entryHeld h) fits, gaps-zero (entryHeld h) fits)
@@ -97,15 +98,15 @@ unfolding entryIn
 entry-fits g r k = omega arith
 
 old-register : (n value : ℕ) → n ≤ 32 → value < 2 ^ 64 → (n ≡ 32 → value ≡ 0)
-    → (r : OldRegister) × registerFits r × (numberOf r ≡ n) × (valueOf r ≡ value)
+    → (r : OldRegister) × registerFits r × (registerNumber r ≡ n) × (registerValue r ≡ value)
 old-register n value hn hv z = go (eqb n 32) refl
   where
-    go : (t : Bool) → eqb n 32 ≡ t → (r : OldRegister) × registerFits r × (numberOf r ≡ n) × (valueOf r ≡ value)
+    go : (t : Bool) → eqb n 32 ≡ t → (r : OldRegister) × registerFits r × (registerNumber r ≡ n) × (registerValue r ≡ value)
     go true e = (noRegister, tt, sym (eqb-true n 32 e), sym (z (eqb-true n 32 e)))
     go false e = (register n value, (omega (arith, eqb-false n 32 e), hv), refl, refl)
 
 abbrev statusOf : Entry → Status
-statusOf e = record { nzcv = e .nzcv; rgsr = e .rgsr; seed = e .seed }
+statusOf e = withNzcv (e .nzcv) (withRgsr (e .rgsr) (withSeed (e .seed) freshStatus))
 
 old-granules : (g : ℕ) (e : Entry) → Rules g e → Fits e → e .a < 2 ^ 64 → e .b < 2 ^ 64 → e .c < 2 ^ 64 → e .d < 2 ^ 64
     → (o : OldGranules) × granulesFit g o × (withGranules (e .register) (e .value) (statusOf e) o ≡ e)
@@ -134,7 +135,7 @@ only g r h m =
     let f = entry-fits g r k in
     let x = old-register (e .register) (e .value) (k .register) (h .small 1) (k .value) in
     let o = old-granules g e k f (h .small 3) (h .small 4) (h .small 5) (h .small 6) in
-    let same : withGranules (numberOf (x .0)) (valueOf (x .0)) (statusOf e) (o .0) ≡ e = rw (x .2, x .3) (o .2) in (
+    let same : withGranules (registerNumber (x .0)) (registerValue (x .0)) (statusOf e) (o .0) ≡ e = rw (x .2, x .3) (o .2) in (
       record { register = x .0; granules = o .0; status = statusOf e },
       record { register = x .1; granules = o .1; nzcv = f .nzcv; rgsr = f .rgsr; seed = f .seed },
       words-back r h (p .0) ∙ ap wordsOf (sym same),

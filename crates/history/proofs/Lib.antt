@@ -2,5 +2,6 @@
 pub mod Exact
 pub mod Packing
 pub mod Recorded
-pub mod Restored
 pub mod Rules
+pub mod Slots
+pub mod StatusWords

@@ -3,5 +3,5 @@ pub mod Records
 pub mod BadRecords
 pub mod Recording
 pub mod Ring
-pub mod Undo
 pub mod WellFormedRecords
+pub mod Inside

@@ -14,12 +14,11 @@ use Rattle.isa.specs.declared.Form.{Form}
 use Rattle.isa.specs.declared.Form.the-variants.{AddSub, TwoSource, Ldg, TagStore, Stgp}
 use Rattle.isa.specs.declared.Decoded.{Decoded}
 use Rattle.isa.specs.declared.Decoded.the-variants.{Is, Undefined}
-use Rattle.memory.specs.Locations.{indexOf, named}
-use Rattle.memory.specs.Stores.{savedBytes, tagBytes}
-use Rattle.machine.specs.State.{State, stateOf}
+use Rattle.memory.specs.Locations.{indexOf}
+use Rattle.memory.specs.Stores.{savedBytes, savedTags}
+use Rattle.machine.specs.State.{State, stateOf, withNzcv, withRgsr, withSeed}
 use Rattle.machine.specs.Registers.{xOrSp, orNone, written}
-use Rattle.instructions.specs.Accesses.{addressOf, writebackTo}
-use Rattle.instructions.specs.TagStores.{isPair}
+use Rattle.instructions.specs.Accesses.{Access, noAccess, access, accessOf, writebackTo}
 use Rattle.history.specs.Records.{Entry, wordsOf}
 
 -- the register: the destination or writeback target, 32 if there is neither or it is the zero register
@@ -38,20 +37,14 @@ target (TagStore op mode t n amount) = writebackTo mode n
 target (Stgp mode t t2 n amount) = writebackTo mode n
 
 -- LDG records no granules; stores record theirs
-abbrev pub granulesOf : Form → ℕ
-granulesOf (AddSub op d n amount offset) = 0
-granulesOf (TwoSource op d n m) = 0
-granulesOf (Ldg t n amount) = 0
-granulesOf (TagStore op mode t n amount) = named (isPair op)
-granulesOf (Stgp mode t t2 n amount) = 1
+abbrev pub granulesRecorded : Access → ℕ
+granulesRecorded noAccess = 0
+granulesRecorded (access n rn address multiple granules stores) = cond stores granules 0
 
 -- the first one's index
-abbrev pub firstOf : Form → State → ℕ
-firstOf (AddSub op d n amount offset) s = 0
-firstOf (TwoSource op d n m) s = 0
-firstOf (Ldg t n amount) s = 0
-firstOf (TagStore op mode t n amount) s = indexOf (s .settings .base) (addressOf mode (xOrSp (s .registers .x) n) amount)
-firstOf (Stgp mode t t2 n amount) s = indexOf (s .settings .base) (addressOf mode (xOrSp (s .registers .x) n) amount)
+abbrev pub firstRecorded : ℕ → Access → ℕ
+firstRecorded base noAccess = 0
+firstRecorded base (access n rn address multiple granules stores) = cond stores (indexOf base address) 0
 
 -- with data if they write data
 
@@ -93,7 +86,9 @@ entryFor r n i saves s =
     }
 
 abbrev pub entryOf : Form → State → Entry
-entryOf f s = entryFor (target f) (granulesOf f) (firstOf f s) (writesData f) s
+entryOf f s =
+    let a = accessOf f s in
+    entryFor (target f) (granulesRecorded a) (firstRecorded (s .settings .base) a) (writesData f) s
 
 -- the record of a word that is accepted on a state
 unfoldable pub recordOf : Decoded → State → List ℕ
@@ -104,6 +99,6 @@ recordOf Undefined s = []
 unfoldable pub restored : Entry → State → State
 restored e s =
     stateOf (s .settings) (written (s .registers .x) (e .register) (e .value))
-    (record { nzcv = e .nzcv; rgsr = e .rgsr; seed = e .seed })
-    (cond (eqb (e .saved) 1) (sets (s .bytes) (16 * e .first) (savedBytes (eqb (e .granules) 2) (e .a) (e .b) (e .c) (e .d))) (s .bytes))
-    (cond (eqb (e .granules) 0) (s .tags) (sets (s .tags) (e .first) (tagBytes (eqb (e .granules) 2) (e .tag) (e .second))))
+    (withNzcv (e .nzcv) (withRgsr (e .rgsr) (withSeed (e .seed) (s .registers .status))))
+    (cond (eqb (e .saved) 1) (sets (s .bytes) (16 * e .first) (savedBytes (e .granules) (e .a) (e .b) (e .c) (e .d))) (s .bytes))
+    (sets (s .tags) (e .first) (savedTags (e .granules) (e .tag) (e .second)))

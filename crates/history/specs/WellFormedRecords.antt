@@ -52,13 +52,13 @@ pub record WellFormed (g : ℕ) (h : Held) : Type 0 where
 -- its places: the register's number and old value, the status, the number of granules, whether data is saved, the tag bytes,
 -- the index and the data; what is not in use is zero
 
-abbrev pub numberOf : OldRegister → ℕ
-numberOf (register n value) = n
-numberOf noRegister = 32
+abbrev pub registerNumber : OldRegister → ℕ
+registerNumber (register n value) = n
+registerNumber noRegister = 32
 
-abbrev pub valueOf : OldRegister → ℕ
-valueOf (register n value) = value
-valueOf noRegister = 0
+abbrev pub registerValue : OldRegister → ℕ
+registerValue (register n value) = value
+registerValue noRegister = 0
 
 abbrev pub placesOf : ℕ → ℕ → Status → ℕ → ℕ → ℕ → ℕ → ℕ → ℕ → ℕ → ℕ → ℕ → Entry
 placesOf n value status granules saved tag second first a b c d =
@@ -87,7 +87,7 @@ withGranules n value status (two first tag second) = placesOf n value status 2 0
 withGranules n value status (twoSaved first tag second a b c d) = placesOf n value status 2 1 tag second first a b c d
 
 abbrev pub entryHeld : Held → Entry
-entryHeld h = withGranules (numberOf (h .register)) (valueOf (h .register)) (h .status) (h .granules)
+entryHeld h = withGranules (registerNumber (h .register)) (registerValue (h .register)) (h .status) (h .granules)
 
 -- its eight words
 unfoldable pub recordWords : Held → List ℕ

@@ -1,17 +1,26 @@
 // The history: records of eight words in a ring of slots. Each function is public because our own crates call it, with
-// a slot, an effect and a cursor that they know to be in range.
+// slots and a cursor that they know to be in range.
+ghost use mathlib.Core.Bool.{false};
 ghost use mathlib.Core.Path.{_≡_};
-ghost use Prim.Native.Nat.{_+_, _%_, _<_, _≤_, min};
+ghost use Prim.Native.Nat.{_+_, _*_, _%_, _<_, _≤_, min};
 ghost use lib.ListN.{length};
 ghost use lib.Seq.{sets};
-ghost use Rattle.history.specs.BadRecords.{beyond, dataNotZero, dataOfNone, gapNotZero, malformed, outOfRange, tagsNotZero, valueNotZero};
-ghost use Rattle.history.specs.Records.{entryIn, word0, wordsOf};
-ghost use Rattle.history.specs.Ring.{advanced, previous, retreated};
-ghost use Rattle.history.specs.Undo.{Storable, entryHolding, entryWith, undoing};
-use machine::Change;
+ghost use Rattle.machine.specs.declared.Settings.{Settings};
+ghost use Rattle.machine.specs.declared.Status.{Status};
+ghost use Rattle.machine.specs.Setup.{slotsOf};
+ghost use Rattle.machine.specs.State.{stateOf};
+ghost use Rattle.history.specs.BadRecords.{malformed};
+ghost use Rattle.history.specs.Inside.Slots.{CursorPlaced, dataRestored, historyOf, slotWords};
+ghost use Rattle.history.specs.Inside.StatusWords.{IsStatus, statusIn};
+ghost use Rattle.history.specs.Recording.{restored};
+ghost use Rattle.history.specs.Records.{entryIn};
+ghost use Rattle.history.specs.Ring.{advanced, previous, pushed, retreated};
+pub use bad_records::is_malformed;
 use machine::Cursor;
-use machine::Effect;
-use machine::Status;
+use machine::register_file;
+
+mod bad_records;
+pub mod status_words;
 
 fn slot_after(next: usize, slots: usize) -> usize
     requires { ⌜ next < slots ⌝ }
@@ -58,31 +67,13 @@ pub fn retreat(cursor: Cursor, slots: usize) -> Cursor
     }
 }
 
-// Word 0 of an effect's record, with data saved or not.
-fn first_word(e: Effect, saved: u64) -> u64
-    requires { ⌜ Storable e ⌝ }
-    requires { ⌜ saved < 2 ⌝ }
-    ensures { λ r. ⌜ r ≡ word0 (entryHolding e saved 0 0 0 0) ⌝ }
-{
-    e.register
-        + 0x100 * (e.granules as u64)
-        + 0x400 * saved
-        + 0x1_0000 * (e.tag as u64)
-        + 0x100_0000 * (e.second as u64)
-        + 0x1_0000_0000 * (e.status.nzcv as u64)
-        + 0x10_0000_0000 * (e.status.rgsr as u64)
-        + 0x100_0000_0000 * (e.status.seed as u64)
-}
-
-fn save_with(part: &mut [u64], e: Effect, saved: u64, a: u64, b: u64, c: u64, d: u64)
+fn write(part: &mut [u64], word: u64, value: u64, first: u64, a: u64, b: u64, c: u64, d: u64)
     requires { ⌜ 8 ≤ length (now part) ⌝ }
-    requires { ⌜ Storable e ⌝ }
-    requires { ⌜ saved < 2 ⌝ }
-    ensures { λ _. ⌜ now (part .exit) ≡ sets (now (part .entry)) 0 (wordsOf (entryHolding e saved a b c d)) ⌝ }
+    ensures { λ _. ⌜ now (part .exit) ≡ sets (now (part .entry)) 0 (slotWords word value first a b c d) ⌝ }
 {
-    part[0] = first_word(e, saved);
-    part[1] = e.value;
-    part[2] = e.first as u64;
+    part[0] = word;
+    part[1] = value;
+    part[2] = first;
     part[3] = a;
     part[4] = b;
     part[5] = c;
@@ -90,136 +81,68 @@ fn save_with(part: &mut [u64], e: Effect, saved: u64, a: u64, b: u64, c: u64, d:
     part[7] = 0;
 }
 
-// Writes the record of an effect that undoes.
-pub fn save(part: &mut [u64], e: Effect)
-    requires { ⌜ 8 ≤ length (now part) ⌝ }
-    requires { ⌜ Storable e ⌝ }
-    ensures { λ _. ⌜ now (part .exit) ≡ sets (now (part .entry)) 0 (wordsOf (entryWith e)) ⌝ }
+// Writes a record into the slot at the cursor, if there is one, and answers the cursor after that.
+pub fn push(
+    history: &mut [u64],
+    cursor: Cursor,
+    word: u64,
+    value: u64,
+    first: u64,
+    a: u64,
+    b: u64,
+    c: u64,
+    d: u64,
+) -> Cursor
+    requires { ⌜ CursorPlaced (slotsOf (length (now history))) cursor ⌝ }
+    ensures { λ r. let before = historyOf (now (history .entry)) cursor in
+        ⌜ historyOf (now (history .exit)) r ≡ pushed (slotWords word value first a b c d) before ⌝ }
 {
-    let change = e.change;
-    match change {
-        Change::Keep => save_with(part, e, 0, 0, 0, 0, 0),
-        Change::Zero => save_with(part, e, 0, 0, 0, 0, 0),
-        Change::Pair(_, _) => save_with(part, e, 0, 0, 0, 0, 0),
-        Change::Words(a, b, c, d) => save_with(part, e, 1, a, b, c, d),
+    let slots = history.len() / 8;
+    if slots == 0 {
+        return cursor;
     }
+    let at = 8 * cursor.next;
+    write(&mut history[at..], word, value, first, a, b, c, d);
+    advance(cursor, slots)
 }
 
-fn is_out_of_range(part: &[u64]) -> bool
+// Restores the data that a record holds, if it holds any.
+fn restore_data(bytes: &mut [u8], first: usize, granules: usize, part: &[u64])
     requires { ⌜ 8 ≤ length (now part) ⌝ }
-    ensures { λ r. ⌜ r ≡ outOfRange (entryIn (now (part .entry))) ⌝ }
-{
-    let w = part[0];
-    (32 < bits::field(w, 0, 6)) | (2 < bits::field(w, 8, 2))
-}
-
-fn is_gap_used(part: &[u64]) -> bool
-    requires { ⌜ 8 ≤ length (now part) ⌝ }
-    ensures { λ r. ⌜ r ≡ gapNotZero (now (part .entry)) ⌝ }
-{
-    let w = part[0];
-    (bits::field(w, 6, 2) != 0)
-        | ((bits::field(w, 11, 5) != 0) | ((bits::field(w, 56, 8) != 0) | (part[7] != 0)))
-}
-
-fn is_stray_value(part: &[u64]) -> bool
-    requires { ⌜ 8 ≤ length (now part) ⌝ }
-    ensures { λ r. ⌜ r ≡ valueNotZero (entryIn (now (part .entry))) ⌝ }
-{
-    (bits::field(part[0], 0, 6) == 32) & (part[1] != 0)
-}
-
-fn is_stray_tag(part: &[u64]) -> bool
-    requires { ⌜ 8 ≤ length (now part) ⌝ }
-    ensures { λ r. ⌜ r ≡ tagsNotZero (entryIn (now (part .entry))) ⌝ }
-{
-    let w = part[0];
-    let granules = bits::field(w, 8, 2);
-    let tag = bits::field(w, 16, 8);
-    let second = bits::field(w, 24, 8);
-    ((granules == 0) & ((tag != 0) | ((second != 0) | (part[2] != 0))))
-        | ((granules == 1) & (second != 0))
-}
-
-fn is_stray_data(part: &[u64]) -> bool
-    requires { ⌜ 8 ≤ length (now part) ⌝ }
-    ensures { λ r. ⌜ r ≡ dataNotZero (entryIn (now (part .entry))) ⌝ }
-{
-    let w = part[0];
-    let granules = bits::field(w, 8, 2);
-    let saved = bits::field(w, 10, 1);
-    ((saved == 0) & ((part[3] != 0) | ((part[4] != 0) | ((part[5] != 0) | (part[6] != 0)))))
-        | ((granules == 1) & ((part[5] != 0) | (part[6] != 0)))
-}
-
-fn is_data_of_none(part: &[u64]) -> bool
-    requires { ⌜ 8 ≤ length (now part) ⌝ }
-    ensures { λ r. ⌜ r ≡ dataOfNone (entryIn (now (part .entry))) ⌝ }
-{
-    let w = part[0];
-    (bits::field(w, 10, 1) == 1) & (bits::field(w, 8, 2) == 0)
-}
-
-fn is_beyond(part: &[u64], granules: usize) -> bool
-    requires { ⌜ 8 ≤ length (now part) ⌝ }
-    ensures { λ r. ⌜ r ≡ beyond granules (entryIn (now (part .entry))) ⌝ }
-{
-    let first = part[2];
-    let all = granules as u64;
-    if all < first {
-        return true;
-    }
-    all - first < bits::field(part[0], 8, 2)
-}
-
-// Whether the record breaks a rule, where there are so many granules.
-pub fn is_malformed(part: &[u64], granules: usize) -> bool
-    requires { ⌜ 8 ≤ length (now part) ⌝ }
-    ensures { λ r. ⌜ r ≡ malformed granules (now (part .entry)) ⌝ }
-{
-    let misplaced = is_data_of_none(part) | is_beyond(part, granules);
-    let stray = is_stray_value(part) | (is_stray_tag(part) | (is_stray_data(part) | misplaced));
-    is_out_of_range(part) | (is_gap_used(part) | stray)
-}
-
-fn status_in(part: &[u64]) -> Status
-    requires { ⌜ 8 ≤ length (now part) ⌝ }
-    ensures { λ r. ⌜ r ≡ undoing (entryIn (now (part .entry))) .status ⌝ }
-{
-    let w = part[0];
-    Status {
-        nzcv: bits::field(w, 32, 4) as u8,
-        rgsr: bits::field(w, 36, 4) as u8,
-        seed: bits::field(w, 40, 16) as u16,
-    }
-}
-
-fn change_in(part: &[u64]) -> Change
-    requires { ⌜ 8 ≤ length (now part) ⌝ }
-    ensures { λ r. ⌜ r ≡ undoing (entryIn (now (part .entry))) .change ⌝ }
+    requires { ⌜ granules ≤ 2 ⌝ }
+    requires { ⌜ 16 * (first + granules) ≤ length (now bytes) ⌝ }
+    ensures { λ _. ⌜ now (bytes .exit) ≡ dataRestored (entryIn (now (part .entry))) first granules (now (bytes .entry)) ⌝ }
 {
     if bits::field(part[0], 10, 1) == 1 {
-        return Change::Words(part[3], part[4], part[5], part[6]);
+        let at = 16 * first;
+        memory::restore(
+            &mut bytes[at..],
+            granules,
+            part[3],
+            part[4],
+            part[5],
+            part[6],
+        );
     }
-    Change::Keep
 }
 
-// The effect that restores what the record holds.
-pub fn load(part: &[u64]) -> Effect
+// Restores what a record holds, and answers the status.
+pub fn restore(x: &mut [u64; 32], bytes: &mut [u8], tags: &mut [u8], part: &[u64]) -> u64
     requires { ⌜ 8 ≤ length (now part) ⌝ }
-    ensures { λ r. ⌜ r ≡ undoing (entryIn (now (part .entry))) ⌝ }
+    requires { ⌜ malformed (length (now tags)) (now part) ≡ false ⌝ }
+    requires { ⌜ length (now bytes) ≡ 16 * length (now tags) ⌝ }
+    ensures { λ r. ⌜ ((settings : Settings) (status : Status) →
+        stateOf settings (now (x .exit)) (statusIn r) (now (bytes .exit)) (now (tags .exit))
+        ≡ restored (entryIn (now (part .entry))) (stateOf settings (now (x .entry)) status (now (bytes .entry)) (now (tags .entry)))) ⌝ }
+    ensures { λ r. ⌜ IsStatus r ⌝ }
 {
     let w = part[0];
-    let granules = bits::field(w, 8, 2);
-    Effect {
-        register: bits::field(w, 0, 6),
-        value: part[1],
-        status: status_in(part),
-        first: part[2] as usize,
-        granules: granules as usize,
-        tagged: granules != 0,
-        tag: bits::field(w, 16, 8) as u8,
-        second: bits::field(w, 24, 8) as u8,
-        change: change_in(part),
-    }
+    let granules = bits::field(w, 8, 2) as usize;
+    let first = part[2] as usize;
+    let tag = bits::field(w, 16, 8) as u8;
+    let second = bits::field(w, 24, 8) as u8;
+    restore_data(bytes, first, granules, part);
+    memory::restore_tags(tags, first, granules, tag, second);
+    register_file::write(x, bits::field(w, 0, 6), part[1]);
+    status_words::only(w)
 }

@@ -33,7 +33,7 @@ use Rattle.instructions.proofs.Places.{accepted}
 -- a word that changes no memory
 pub register-within : (g n v : ℕ) (status : Status) → n ≤ 32 → Within (registerEffect n v status) g
 register-within g n v status h =
-    record { register = h; few = omega arith; inside = omega arith; wide = omega arith; some = λ h. absurd (false≢true h) }
+    record { register = h; few = omega arith; inside = omega arith; wide = omega arith; some = λ h. absurd (false≢true h); none = λ z. refl }
 
 -- and drops its result where the number is 31
 pub or-none-le : (n : ℕ) → n ≤ 31 → orNone n ≤ 32
@@ -69,7 +69,7 @@ module _ (s : State) (ok : sound s ≡ true) where
       let rules = state-sized (s .settings) (s .registers .status) (length (s .bytes)) (length (s .tags)) ok in
       let (z, v) = accepted (s .settings .base) (length (s .tags)) n rn (addressOf mode rn amount) 16 granules true h in
       let inside = within (s .settings .base) (length (s .bytes)) (length (s .tags)) granules (addressOf mode rn amount) rules (λ two. z) v some in
-      record { register = writeback-le mode n hn; few = few; inside = inside .1; wide = wide; some = λ w. some }
+      record { register = writeback-le mode n hn; few = few; inside = inside .1; wide = wide; some = λ w. some; none = λ z. absurd (omega arith) }
 
   pub form-within : (f : Form) → fieldsFit f ≡ true → Accepted s f → Within (formEffect f s) (length (s .tags))
   form-within (AddSub op d n amount offset) h k =

@@ -72,6 +72,7 @@ pub record Within (e : Effect) (g : ℕ) : Type 0 where
   pub inside : e .first + e .granules ≤ g
   pub wide : length (newBytes (e .change) (e .granules)) ≤ 16 * e .granules
   pub some : writes (e .change) ≡ true → 1 ≤ e .granules
+  pub none : e .granules ≡ 0 → e .first ≡ 0
 
 -- the effect of each form
 
