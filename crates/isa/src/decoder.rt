@@ -1,4 +1,4 @@
-// The forms of a word whose bits 31:22 are known.
+// The forms of a word whose bits 31:22 are known. The module is public because `simulator` calls `signed` and `mode_of`.
 use super::AddSubOp;
 use super::Decoded;
 use super::Form;
@@ -12,7 +12,7 @@ ghost use Rattle.isa.specs.Decoding.{signedAmount, twoSourceAt, tagStore
 ghost use Rattle.isa.specs.Inside.DecodingBranches.{addSubBranch, twoSourceBranch, subpsBranch, ldgBranch, modeOf, modeBranch, ifBit21};
 
 // The bytes of a signed count of granules in a field of 2 * half values.
-fn signed(imm: u64, half: u64) -> u64
+pub fn signed(imm: u64, half: u64) -> u64
     requires { ⌜ imm < 2 * half ⌝ }
     requires { ⌜ half ≤ 256 ⌝ }
     ensures { λ r. ⌜ r ≡ signedAmount half imm ⌝ }
@@ -113,7 +113,7 @@ fn tag_store(op: TagStoreOp, mode: Mode, w: u64) -> Decoded
 }
 
 // The mode of bits 11:10 that are not zero: a value, so that what follows does not branch on it.
-fn mode_of(mode: u64) -> Mode
+pub fn mode_of(mode: u64) -> Mode
     ensures { λ r. ⌜ r ≡ modeOf mode ⌝ }
 {
     match mode {

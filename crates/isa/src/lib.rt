@@ -4,7 +4,7 @@ ghost use Rattle.isa.specs.Answers.{decodedCode, encodedCode, encodedWor
 ghost use Rattle.isa.specs.Decoding.{decodeOf};
 ghost use Rattle.isa.specs.Encoding.{encodeOf};
 
-mod decoder;
+pub mod decoder;
 mod encoder;
 
 // Where a store takes its address from the base register, and when the register moves.

@@ -93,6 +93,10 @@ located base g address n i h = go (allInside base g n address) refl h
     go true e k = (e, cc)
     go false e k = let z : _≡_ {A = ℕ} 0 1 = cc in absurd (omega arith)
 
+pub one-inside : (base g address : ℕ) → inside base g address ≡ true → At (indexOf base address) ≡ granuleOf base g address 1
+unfolding granuleOf allInside
+one-inside base g address e = rw e
+
 -- a difference modulo 2^64, which below the base is past the end of every memory
 
 no-borrow : (base loc d : ℕ) → base ≤ loc → loc < 2 ^ 56 → d < 2 ^ 64 → (d + base) % 2 ^ 64 ≡ loc → d ≡ loc - base
@@ -107,24 +111,24 @@ module _ (base bytes g n address d : ℕ) (s : Sized base bytes g) (some : 1 ≤
   located-low : base ≤ location address → d ≡ location address - base
   located-low low = no-borrow base (location address) d low (omega arith) small e
 
-  pub found : d / 16 < g → n ≤ g - d / 16 → At (d / 16) ≡ granuleOf base g address n
+  pub found : d / 16 + n ≤ g → At (d / 16) ≡ granuleOf base g address n
   unfolding granuleOf
-  found h k =
+  found h =
       let few = s .few in
       let below = s .below in
       let low : base ≤ location address = short-difference base (location address) d (omega arith) (omega arith) e in
       let same = located-low low in
       rw (same, all-inside base bytes g n address s z low (omega (arith, same)))
 
-  pub missed : (d / 16 < g → n ≤ g - d / 16 → ⊥) → Outside ≡ granuleOf base g address n
+  pub missed : g < d / 16 + n → Outside ≡ granuleOf base g address n
   unfolding granuleOf
-  missed never = go (allInside base g n address) refl
+  missed beyond = go (allInside base g n address) refl
     where
       go : (t : Bool) → allInside base g n address ≡ t → Outside ≡ cond t (At (indexOf base address)) Outside
       go true h =
           let k = within base bytes g n address s z h some in
           let same : d / 16 ≡ indexOf base address = rw (located-low (k .0)) refl in
-          absurd (never (omega (arith, same, k .1)) (omega (arith, same, k .1)))
+          absurd (omega (arith, same, k .1))
       go false h = refl
 
 -- where the words of an aligned address's granule start in the data

@@ -48,16 +48,13 @@ pub fn sizes_ok(base: u64, bytes: usize, granules: usize) -> bool
 pub fn locate(base: u64, granules: usize, address: u64, count: usize) -> Granule
     requires { ⌜ sizesOk base (16 * granules) granules ≡ true ⌝ }
     requires { ⌜ 1 ≤ count ⌝ }
+    requires { ⌜ count ≤ 65536 ⌝ }
     requires { ⌜ (2 ≤ count → address % 16 ≡ 0) ⌝ }
     ensures { λ r. ⌜ r ≡ granuleOf base granules address count ⌝ }
 {
     let location = address % 0x100_0000_0000_0000;
     let index = std::num::wrapping_sub_u64(location, base) / 16;
-    let all = granules as u64;
-    if all <= index {
-        return Granule::Outside;
-    }
-    if all - index < count as u64 {
+    if (granules as u64) < index + count as u64 {
         return Granule::Outside;
     }
     Granule::At(index as usize)

@@ -43,7 +43,7 @@ module _ (pointer base : ℕ) (bytes tags : List ℕ) where
   unfolding pointsInside
   unsized h = rw h
 
-  pub missed : granuleOf base (length tags) pointer false ≡ Outside → pointsInside pointer base bytes tags ≡ false
+  pub missed : granuleOf base (length tags) pointer 1 ≡ Outside → pointsInside pointer base bytes tags ≡ false
   unfolding pointsInside
   missed h = rw (go (inside base (length tags) pointer) refl) (and-false (sizesOk base (length bytes) (length tags)))
     where
@@ -56,12 +56,12 @@ module _ (pointer base : ℕ) (bytes tags : List ℕ) where
     pub index : first ≡ indexOf base pointer
     pub inside : Inside
 
-  pub found : (first : ℕ) → sizesOk base (length bytes) (length tags) ≡ true → granuleOf base (length tags) pointer false ≡ At first
+  pub found : (first : ℕ) → sizesOk base (length bytes) (length tags) ≡ true → granuleOf base (length tags) pointer 1 ≡ At first
       → Found first
   unfolding pointsInside
   found first s h =
-      let here = located base (length tags) pointer false first h in
-      let points : pointsInside pointer base bytes tags ≡ true = rw (s, all-first base (length tags) pointer false (here .0)) in
+      let here = located base (length tags) pointer 1 first h in
+      let points : pointsInside pointer base bytes tags ≡ true = rw (s, all-first base (length tags) 0 pointer (here .0)) in
       record { points = points; index = here .1; inside = within points }
 
   -- the part, by the granule found and the end of the row that the code counts

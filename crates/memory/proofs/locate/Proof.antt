@@ -10,31 +10,24 @@ use Rattle.memory.proofs.locate.Tie as tie
 wrapping-sub-u64-requires : tie.Need-wrapping-sub-u64-requires
 wrapping-sub-u64-requires c κs = search needs
 
+add-if1 : tie.Need-add-if1
+add-if1 c = search needs
+
 returns : tie.Need-returns
 returns c =
     let start = c .before .before in
     let a = start .args in
-    missed (a .base) _ (a .granules) (a .count) (a .address) (c .before .wrapping-sub-u64 .result) (sized (a .base) _ (a .granules) (start .pre .0))
-    (start .pre .1 .0) (start .pre .1 .1) (omega arith) (c .before .wrapping-sub-u64 .ensures) (λ h k. omega arith)
-
-sub-if2 : tie.Need-sub-if2
-sub-if2 c = search needs
+    missed (a .base) _ (a .granules) (a .count) (a .address) (c .before .wrapping-sub-u64 .result)
+    (sized (a .base) _ (a .granules) (start .pre .0)) (start .pre .1 .0) (start .pre .1 .1 .1) (omega arith) (c .before .wrapping-sub-u64 .ensures)
+    (omega arith)
 
 returns-2 : tie.Need-returns-2
 returns-2 c =
-    let start = c .before .before .before in
+    let start = c .before .before in
     let a = start .args in
-    missed (a .base) _ (a .granules) (a .count) (a .address) (c .before .before .wrapping-sub-u64 .result)
-    (sized (a .base) _ (a .granules) (start .pre .0)) (start .pre .1 .0) (start .pre .1 .1) (omega arith) (c .before .before .wrapping-sub-u64 .ensures)
-    (λ h k. omega arith)
-
-returns-3 : tie.Need-returns-3
-returns-3 c =
-    let start = c .before .before .before in
-    let a = start .args in
-    found (a .base) _ (a .granules) (a .count) (a .address) (c .before .before .wrapping-sub-u64 .result)
-    (sized (a .base) _ (a .granules) (start .pre .0)) (start .pre .1 .0) (start .pre .1 .1) (omega arith) (c .before .before .wrapping-sub-u64 .ensures)
-    (omega arith) (omega arith)
+    found (a .base) _ (a .granules) (a .count) (a .address) (c .before .wrapping-sub-u64 .result)
+    (sized (a .base) _ (a .granules) (start .pre .0)) (start .pre .1 .0) (start .pre .1 .1 .1) (omega arith) (c .before .wrapping-sub-u64 .ensures)
+    (omega arith)
 
 pub locate-spec : {M : Type 1} → statement M
-locate-spec = tie.close (tie.spec wrapping-sub-u64-requires returns sub-if2 returns-2 returns-3)
+locate-spec = tie.close (tie.spec wrapping-sub-u64-requires add-if1 returns returns-2)

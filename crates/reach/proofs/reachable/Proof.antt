@@ -5,6 +5,7 @@ use native.Mathlib.Omega.{arith}
 use borrow.Author.Needs.{needs}
 use borrow.Author.Tests.{not-true, not-false}
 use lib.ListN.{length, take, drop}
+use Rattle.memory.proofs.Sizes.{sized}
 use Rattle.reach.specs.ReachablePart.{reachableOf}
 use Rattle.reach.proofs.Parts.{Found, empty-part, unsized, missed, found, end-within, counted-part}
 use Rattle.reach.proofs.reachable.Statement.{statement}
@@ -26,7 +27,10 @@ returns c =
     (sym (c .before .before .sizes-ok .ensures) ∙ not-true _ (c .before .if1 .taken))))
 
 locate-requires : tie.Need-locate-requires
-locate-requires c κs = search needs
+locate-requires c κs =
+    let a = c .before .before .before .before .args in
+    let ok = sym (c .before .sizes-ok .ensures) ∙ not-false _ (c .if1 .left) in
+    (rw (sized (a .base) (length (a .bytes .now)) (length (a .tags .now)) ok .sixteen) at ok, (omega arith, (omega arith, λ two. absurd (omega arith))))
 
 enum-known-first : tie.Need-enum-known-first
 enum-known-first c = search needs
