@@ -3,7 +3,7 @@ use Prim.Native.Nat.{ℕ, suc}
 use mathlib.Core.List.{List, [], _∷_}
 use mathlib.Core.Path.{_≡_, refl, ap, subst}
 use Rattle.machine.specs.declared.Code.{Code}
-use Rattle.simulator.specs.Calls.{Call, stepCall, runCall, backCall, Out, refused, done, Answer, Left, left, answered, oneMore, inOrder, Machine, call, Ended, calls}
+use Rattle.simulator.specs.Calls.{Call, stepCall, runCall, backCall, Out, refused, done, Answer, Returned, returned, answered, oneMore, inOrder, Callable, call, Ended, calls}
 
 module _ {X Y : Type 0} (R : X → Y → Type 0) where
   -- both are refused with one code, or both are done and keep the relation
@@ -13,7 +13,7 @@ module _ {X Y : Type 0} (R : X → Y → Type 0) where
   OutAlike (done x) (refused code) = ⊥
   OutAlike (done x) (done y) = R x y
 
-  pub record LeftAlike (a : Left X) (b : Left Y) : Type 0 where
+  pub record ReturnedAlike (a : Returned X) (b : Returned Y) : Type 0 where
     pub answer : a .answer ≡ b .answer
     pub after : R (a .after) (b .after)
 
@@ -21,9 +21,9 @@ module _ {X Y : Type 0} (R : X → Y → Type 0) where
     pub answers : a .answers ≡ b .answers
     pub final : R (a .final) (b .final)
 
-  pub record CallsAlike (m : Machine X) (n : Machine Y) : Type 0 where
+  pub record CallsAlike (m : Callable X) (n : Callable Y) : Type 0 where
     pub step : (x : X) (y : Y) (w : ℕ) → R x y → OutAlike (m .step x w) (n .step y w)
-    pub run : (x : X) (y : Y) (ws : List ℕ) → R x y → LeftAlike (m .run x ws) (n .run y ws)
+    pub run : (x : X) (y : Y) (ws : List ℕ) → R x y → ReturnedAlike (m .run x ws) (n .run y ws)
     pub back : (x : X) (y : Y) → R x y → OutAlike (m .back x) (n .back y)
 
   -- by cases
@@ -35,27 +35,27 @@ module _ {X Y : Type 0} (R : X → Y → Type 0) where
   either P f g (done x) (done y) r = g x y r
 
   pub in-order-alike : (f : X → ℕ → Out X) (g : Y → ℕ → Out Y) → ((x : X) (y : Y) (w : ℕ) → R x y → OutAlike (f x w) (g y w))
-      → (ws : List ℕ) (x : X) (y : Y) → R x y → LeftAlike (inOrder f x ws) (inOrder g y ws)
+      → (ws : List ℕ) (x : X) (y : Y) → R x y → ReturnedAlike (inOrder f x ws) (inOrder g y ws)
   unfolding inOrder
   in-order-alike f g step [] x y r = record { answer = refl; after = r }
   in-order-alike f g step (w ∷ ws) x y r =
       either
       (λ a b.
-      LeftAlike (elim a [ refused code ↦ left code 0 x | done after ↦ oneMore (inOrder f after ws) ])
-      (elim b [ refused code ↦ left code 0 y | done after ↦ oneMore (inOrder g after ws) ]))
+      ReturnedAlike (elim a [ refused code ↦ returned code 0 x | done after ↦ oneMore (inOrder f after ws) ])
+      (elim b [ refused code ↦ returned code 0 y | done after ↦ oneMore (inOrder g after ws) ]))
       (λ code. record { answer = refl; after = r })
       (λ x′ y′ r′.
       let rest = in-order-alike f g step ws x′ y′ r′ in
       record { answer = ap (λ (a : Answer). record { code = a .code; count = suc (a .count) }) (rest .answer); after = rest .after })
       (f x w) (g y w) (step x y w r)
 
-  answered-alike : (x : X) (y : Y) → R x y → (a : Out X) (b : Out Y) → OutAlike a b → LeftAlike (answered x a) (answered y b)
+  answered-alike : (x : X) (y : Y) → R x y → (a : Out X) (b : Out Y) → OutAlike a b → ReturnedAlike (answered x a) (answered y b)
   answered-alike x y r =
-      either (λ a b. LeftAlike (answered x a) (answered y b)) (λ code. record { answer = refl; after = r })
+      either (λ a b. ReturnedAlike (answered x a) (answered y b)) (λ code. record { answer = refl; after = r })
       (λ x′ y′ r′. record { answer = refl; after = r′ })
 
-  module _ (m : Machine X) (n : Machine Y) (alike : CallsAlike m n) where
-    call-alike : (c : Call) (x : X) (y : Y) → R x y → LeftAlike (call m x c) (call n y c)
+  module _ (m : Callable X) (n : Callable Y) (alike : CallsAlike m n) where
+    call-alike : (c : Call) (x : X) (y : Y) → R x y → ReturnedAlike (call m x c) (call n y c)
     unfolding call
     call-alike (stepCall w) x y r = answered-alike x y r (m .step x w) (n .step y w) (alike .step x y w r)
     call-alike (runCall ws) x y r = alike .run x y ws r

@@ -13,7 +13,8 @@ use Rattle.machine.specs.declared.Cursor.{Cursor}
 use Rattle.machine.specs.Setup.{cursorOk}
 use Rattle.history.specs.History.{History, capacity}
 use Rattle.history.specs.Ring.{advanced, previous, retreated, pushed}
-use Rattle.simulator.specs.Taking.{CursorPlaced}
+use Rattle.history.specs.Inside.Slots.{CursorPlaced}
+use Rattle.history.proofs.Slots.{pushed-either}
 
 pub placed : (c : ℕ) (cursor : Cursor) → cursorOk c cursor ≡ true → CursorPlaced c cursor
 unfolding cursorOk
@@ -40,18 +41,6 @@ placed-ok c cursor p = go (eqb c 0) refl
     go false z =
         let n : cursor .next < c = omega (arith, eqb-false c 0 z) in
         rw (lt-ltb (cursor .next) c n, le-leb (cursor .held) c (p .held))
-
--- what holds of the history as it was, with no slots, and with the record written, holds of it with the record put in
-pub pushed-either : (P : History → Type 0) (r : List ℕ) (h : History) → (capacity h ≡ 0 → P h)
-    → (0 < capacity h → P (record { words = sets (h .words) (8 * h .cursor .next) r; cursor = advanced (capacity h) (h .cursor) }))
-    → P (pushed r h)
-unfolding pushed
-pushed-either P r h none some = go (eqb (capacity h) 0) refl
-  where
-    go : (t : Bool) → eqb (capacity h) 0 ≡ t
-        → P (cond t h (record { words = sets (h .words) (8 * h .cursor .next) r; cursor = advanced (capacity h) (h .cursor) }))
-    go true e = none (eqb-true (capacity h) 0 e)
-    go false e = some (omega (arith, eqb-false (capacity h) 0 e))
 
 pub advanced-placed : (c : ℕ) (cursor : Cursor) → 0 < c → CursorPlaced c (advanced c cursor)
 unfolding advanced

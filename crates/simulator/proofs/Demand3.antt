@@ -8,10 +8,10 @@ use lib.ListN.{take}
 use borrow.Author.Tests.{eq-eqb, ne-eqb}
 use Rattle.isa.specs.Decoding.{decodeOf}
 use Rattle.machine.specs.declared.Code.the-variants.{NoHistory}
-use Rattle.machine.specs.Codes.{isDone, firstOf}
+use Rattle.machine.specs.Codes.{isDone, lowest}
 use Rattle.machine.specs.Setup.{sound}
 use Rattle.machine.specs.State.{State, Typed}
-use Rattle.instructions.specs.Words.{wordOutcome}
+use Rattle.instructions.specs.WordOutcomes.{wordOutcome}
 use Rattle.instructions.proofs.TypedStates.{word-typed}
 use Rattle.instructions.proofs.WellFormed.{word-sound}
 use Rattle.history.specs.History.{History, capacity}
@@ -99,11 +99,11 @@ module _ (c : ℕ) where
       })
 
   empty : (s : State) (h : History) → Undoes c s h [] → stepBackOf (joined s h) ≡ refused NoHistory
-  unfolding stepBackOf firstOf
+  unfolding stepBackOf lowest
   empty s h u = rw (holds s h [] u, eq-eqb (h .cursor .held) 0 (u .ringed .held))
 
   pops : (s : State) (h : History) (k : State) (ks : List State) → Undoes c s h (k ∷ ks) → Popped logging (stacking c) (Undoes c) s h k ks
-  unfolding logging stacking stepBackOf firstOf
+  unfolding logging stacking stepBackOf lowest
   pops s h k ks u =
       let (restores, good) = ring-newest Undoing c h s k ks (u .ringed) in
       let some : h .cursor .held ≡ 0 → ⊥ = omega (arith, u .ringed .held) in

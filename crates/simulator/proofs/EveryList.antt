@@ -10,13 +10,13 @@ use lib.Dec.{ltb}
 use lib.ListN.{length, drop, length-append, length-map}
 use lib.Seq.{take-append-seam, drop-append-seam}
 use Rattle.simulator.specs.Calls.{Call, stepCall, runCall, backCall}
-use Rattle.simulator.specs.Playing.{EveryListIsPlayed, allTaken, allWords, callOf, listed, numberOf, playCode, wordsOf, wordsTaken}
+use Rattle.simulator.specs.Playing.{EveryListIsPlayed, allTaken, allWords, callOf, listed, callNumber, playCode, callWords, wordsTaken}
 
 -- a call's number, on its words with others behind them
 record Listed (c : Call) (rest : List ℕ) : Type 0 where
-  itself : callOf (numberOf c) (wordsOf c ++ rest) ≡ c
-  behind : drop (wordsTaken (numberOf c)) (wordsOf c ++ rest) ≡ rest
-  all : wordsTaken (numberOf c) ≡ length (wordsOf c)
+  itself : callOf (callNumber c) (callWords c ++ rest) ≡ c
+  behind : drop (wordsTaken (callNumber c)) (callWords c ++ rest) ≡ rest
+  all : wordsTaken (callNumber c) ≡ length (callWords c)
 
 one-listed : (c : Call) (rest : List ℕ) → Listed c rest
 unfolding callOf wordsTaken
@@ -32,14 +32,14 @@ one-listed (runCall words) rest =
     }
 one-listed backCall rest = record { itself = refl; behind = refl; all = refl }
 
-all-listed : (list : List Call) → listed (map numberOf list) (allWords list) ≡ list
+all-listed : (list : List Call) → listed (map callNumber list) (allWords list) ≡ list
 unfolding listed
 all-listed [] = refl
 all-listed (c ∷ cs) =
     let one = one-listed c (allWords cs) in
     rw (one .itself, one .behind, all-listed cs)
 
-all-taken : (list : List Call) → allTaken (map numberOf list) ≡ length (allWords list)
+all-taken : (list : List Call) → allTaken (map callNumber list) ≡ length (allWords list)
 unfolding allTaken
 all-taken [] = refl
 all-taken (c ∷ cs) = rw (length-append, one-listed c (allWords cs) .all, all-taken cs)

@@ -9,14 +9,14 @@ use lib.ListN.{length}
 use Rattle.isa.specs.Decoding.{decodeOf}
 use Rattle.machine.specs.declared.Code.{Code}
 use Rattle.machine.specs.declared.Code.the-variants.{Done, Setup}
-use Rattle.machine.specs.Codes.{isDone, firstOf}
+use Rattle.machine.specs.Codes.{isDone, lowest}
 use Rattle.machine.specs.Setup.{sound, cursorOk, setupOk}
-use Rattle.instructions.specs.Words.{Outcome, wordOutcome}
+use Rattle.instructions.specs.WordOutcomes.{Outcome, wordOutcome}
 use Rattle.instructions.proofs.WellFormed.{SameShape, word-sound, word-keeps}
 use Rattle.history.specs.History.{capacity}
 use Rattle.history.specs.Recording.{recordOf}
 use Rattle.history.specs.Ring.{pushed}
-use Rattle.simulator.specs.Calls.{Out, refused, done, Left, left, whenDone, answered, oneMore, inOrder}
+use Rattle.simulator.specs.Calls.{Out, refused, done, Returned, returned, whenDone, answered, oneMore, inOrder}
 use Rattle.simulator.specs.Simulation.{Simulation, wellFormed}
 use Rattle.simulator.specs.Steps.{stepOf, runOf}
 use Rattle.simulator.proofs.Cursors.{placed, placed-ok, pushed-words, pushed-placed}
@@ -59,11 +59,11 @@ step-keeps s s′ w h e = step-kept s s′ w h e .formed
 
 -- a machine that is not well formed refuses every word
 pub ill-formed : (s : Simulation) (w : ℕ) → wellFormed s ≡ false → stepOf s w ≡ refused Setup
-unfolding stepOf wordOutcome firstOf
+unfolding stepOf wordOutcome lowest
 ill-formed s w h = rw h
 
 -- the same code, and the same machine after it
-abbrev pub SameCall : Left Simulation → Left Simulation → Type 0
+abbrev pub SameCall : Returned Simulation → Returned Simulation → Type 0
 SameCall l m = (l .answer .code ≡ m .answer .code) × (l .after ≡ m .after)
 
 -- a run of one word is its step, but for the count
@@ -72,38 +72,38 @@ unfolding runOf inOrder
 one-word s w = go (wellFormed s) refl
   where
     first : (o : Out Simulation)
-        → SameCall (elim o [ refused code ↦ left code 0 s | done after ↦ oneMore (left Done 0 after) ]) (answered s o)
+        → SameCall (elim o [ refused code ↦ returned code 0 s | done after ↦ oneMore (returned Done 0 after) ]) (answered s o)
     first (refused code) = (refl, refl)
     first (done after) = (refl, refl)
 
-    go : (t : Bool) → wellFormed s ≡ t → SameCall (cond t (inOrder stepOf s (w ∷ [])) (left Setup 0 s)) (answered s (stepOf s w))
+    go : (t : Bool) → wellFormed s ≡ t → SameCall (cond t (inOrder stepOf s (w ∷ [])) (returned Setup 0 s)) (answered s (stepOf s w))
     go true h = first (stepOf s w)
     go false h = rw (ill-formed s w h) (refl, refl)
 
 -- so a run of one word answers for the step
-pub one-step : (s : Simulation) (w : ℕ) (l : Left Simulation) → l ≡ runOf s (w ∷ []) → left (l .answer .code) 0 (l .after) ≡ answered s (stepOf s w)
+pub one-step : (s : Simulation) (w : ℕ) (l : Returned Simulation) → l ≡ runOf s (w ∷ []) → returned (l .answer .code) 0 (l .after) ≡ answered s (stepOf s w)
 one-step s w l e = go (answered s (stepOf s w)) (uncounted (stepOf s w)) (one-word s w)
   where
     uncounted : (o : Out Simulation) → answered s o .answer .count ≡ 0
     uncounted (refused code) = refl
     uncounted (done after) = refl
 
-    go : (m : Left Simulation) → m .answer .count ≡ 0 → SameCall (runOf s (w ∷ [])) m → left (l .answer .code) 0 (l .after) ≡ m
+    go : (m : Returned Simulation) → m .answer .count ≡ 0 → SameCall (runOf s (w ∷ [])) m → returned (l .answer .code) 0 (l .after) ≡ m
     go m z same =
-        let code = ap (λ (k : Left Simulation). k .answer .code) e ∙ same .0 in
-        let after = ap (λ (k : Left Simulation). k .after) e ∙ same .1 in
-        λ i. left (code i) (sym z i) (after i)
+        let code = ap (λ (k : Returned Simulation). k .answer .code) e ∙ same .0 in
+        let after = ap (λ (k : Returned Simulation). k .after) e ∙ same .1 in
+        λ i. returned (code i) (sym z i) (after i)
 
 -- a run, where n words were done before
 
-abbrev pub plus : {X : Type 0} → ℕ → Left X → Left X
-plus n l = left (l .answer .code) (n + l .answer .count) (l .after)
+abbrev pub plus : {X : Type 0} → ℕ → Returned X → Returned X
+plus n l = returned (l .answer .code) (n + l .answer .count) (l .after)
 
-pub plus-zero : {X : Type 0} (l : Left X) → plus 0 l ≡ l
-plus-zero l = ap (λ (n : ℕ). left (l .answer .code) n (l .after)) (zero-add (l .answer .count))
+pub plus-zero : {X : Type 0} (l : Returned X) → plus 0 l ≡ l
+plus-zero l = ap (λ (n : ℕ). returned (l .answer .code) n (l .after)) (zero-add (l .answer .count))
 
 module _ {X : Type 0} (step : X → ℕ → Out X) (i : ℕ) (x : X) where
-  pub run-ends : plus i (inOrder step x []) ≡ left Done i x
+  pub run-ends : plus i (inOrder step x []) ≡ returned Done i x
   unfolding inOrder
   run-ends = rw add-zero
 
@@ -111,6 +111,6 @@ module _ {X : Type 0} (step : X → ℕ → Out X) (i : ℕ) (x : X) where
   unfolding inOrder
   run-more y w ws e = rw (inOrder, e, add-suc, suc-add)
 
-  pub run-stops : (code : Code) (w : ℕ) (ws : List ℕ) → step x w ≡ refused code → plus i (inOrder step x (w ∷ ws)) ≡ left code i x
+  pub run-stops : (code : Code) (w : ℕ) (ws : List ℕ) → step x w ≡ refused code → plus i (inOrder step x (w ∷ ws)) ≡ returned code i x
   unfolding inOrder
   run-stops code w ws e = rw (inOrder, e, add-zero)

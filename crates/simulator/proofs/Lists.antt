@@ -12,7 +12,7 @@ use lib.Seq.{drop-cons, drop-drop, sets}
 use Rattle.machine.specs.Codes.{codeNumber}
 use Rattle.simulator.specs.declared.playing.PlayCode.{PlayCode}
 use Rattle.simulator.specs.declared.playing.PlayCode.the-variants.{Done, NoRoom, NoWords}
-use Rattle.simulator.specs.Calls.{Ended, Left, call, calls}
+use Rattle.simulator.specs.Calls.{Ended, Returned, call, calls}
 use Rattle.simulator.specs.Playing.{Played, allTaken, callOf, codesOf, countsOf, listed, playCode, playNumber, playOf, played, wordsTaken}
 use Rattle.simulator.specs.Simulation.{Simulation}
 use Rattle.simulator.specs.Steps.{simulator}
@@ -52,7 +52,7 @@ module _ (list words : List ℕ) (start : Simulation) (codes₀ counts₀ : List
       pub has-words : wordsTaken (getD list i 0) ≤ length (drop at words)
       has-words = rw (length-drop at words) (omega (arith, reached .enough, taken-on list i inside))
 
-      pub one-on : (l : Left Simulation) → l ≡ call simulator s (callOf (getD list i 0) (drop at words))
+      pub one-on : (l : Returned Simulation) → l ≡ call simulator s (callOf (getD list i 0) (drop at words))
           → Reached (i + 1) (at + wordsTaken (getD list i 0)) (l .after) (set codes i (codeNumber (l .answer .code))) (set counts i (l .answer .count))
       unfolding calls listed
       one-on l e =
@@ -63,7 +63,7 @@ module _ (list words : List ℕ) (start : Simulation) (codes₀ counts₀ : List
             enough = omega (arith, reached .enough, taken-on list i inside);
             rest =
                 rw add-one
-                (subst (λ (k : Left Simulation). writtenFrom (suc i) (length list) (set codes i (codeNumber (k .answer .code))) (set counts i (k .answer .count)) (calls simulator (k .after) (listed (drop (suc i) list) (drop (at + wordsTaken number) words))) ≡ whole)
+                (subst (λ (k : Returned Simulation). writtenFrom (suc i) (length list) (set codes i (codeNumber (k .answer .code))) (set counts i (k .answer .count)) (calls simulator (k .after) (listed (drop (suc i) list) (drop (at + wordsTaken number) words))) ≡ whole)
                 (sym e) behind);
           }
 

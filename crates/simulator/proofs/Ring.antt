@@ -10,8 +10,9 @@ use lib.ListN.{length, take, drop, set, length-take}
 use lib.Seq.{sets, length-sets, sets-eq, take-at, drop-at, length-take-le, drop-set-add, take-set-le, drop-set-lt}
 use Rattle.history.specs.History.{History, capacity}
 use Rattle.history.specs.Ring.{advanced, previous, retreated, pushed, newest, popped}
-use Rattle.simulator.specs.Taking.{CursorPlaced}
-use Rattle.simulator.proofs.Cursors.{pushed-either, advanced-placed, retreated-placed}
+use Rattle.history.specs.Inside.Slots.{CursorPlaced}
+use Rattle.history.proofs.Slots.{pushed-either}
+use Rattle.simulator.proofs.Cursors.{advanced-placed, retreated-placed}
 
 -- slots
 

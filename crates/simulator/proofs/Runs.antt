@@ -8,7 +8,7 @@ use lib.ListN.{length, drop, getD, drop-of-length-le}
 use lib.Seq.{drop-cons}
 use Rattle.machine.specs.declared.Code.{Code}
 use Rattle.machine.specs.declared.Code.the-variants.{Done}
-use Rattle.simulator.specs.Calls.{left, refused, done, inOrder}
+use Rattle.simulator.specs.Calls.{returned, refused, done, inOrder}
 use Rattle.simulator.specs.Simulation.{Simulation, wellFormed}
 use Rattle.simulator.specs.Steps.{stepOf}
 use Rattle.simulator.proofs.Kept.{Kept, step-kept, plus, plus-zero, run-ends, run-more, run-stops}
@@ -26,7 +26,7 @@ module _ (words : List ℕ) (start : Simulation) where
   at-start h = record { formed = h; bytes = refl; tags = refl; history = refl; rest = plus-zero (inOrder stepOf start words) }
 
   module _ (i : ℕ) (s : Simulation) (reached : Reached i s) where
-    pub at-end : length words ≤ i → left Done i s ≡ inOrder stepOf start words
+    pub at-end : length words ≤ i → returned Done i s ≡ inOrder stepOf start words
     at-end h =
         sym (run-ends stepOf i s)
         ∙ ap (λ (ws : List ℕ). plus i (inOrder stepOf s ws)) (sym (drop-of-length-le words h))
@@ -36,7 +36,7 @@ module _ (words : List ℕ) (start : Simulation) where
       front : plus i (inOrder stepOf s (getD words i 0 ∷ drop (suc i) words)) ≡ inOrder stepOf start words
       front = ap (λ (ws : List ℕ). plus i (inOrder stepOf s ws)) (sym (drop-cons words i 0 inside)) ∙ reached .rest
 
-      pub at-refusal : (code : Code) → stepOf s (getD words i 0) ≡ refused code → left code i s ≡ inOrder stepOf start words
+      pub at-refusal : (code : Code) → stepOf s (getD words i 0) ≡ refused code → returned code i s ≡ inOrder stepOf start words
       at-refusal code e = sym (run-stops stepOf i s code (getD words i 0) (drop (suc i) words) e) ∙ front
 
       pub one-on : (after : Simulation) → stepOf s (getD words i 0) ≡ done after → Reached (i + 1) after

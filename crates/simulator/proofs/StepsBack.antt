@@ -8,24 +8,24 @@ use lib.ListN.{length, take, drop}
 use borrow.Author.Tests.{ne-eqb}
 use Rattle.machine.specs.declared.Code.the-variants.{Done, Setup, NoHistory, BadRecord}
 use Rattle.machine.specs.declared.Cursor.{Cursor}
-use Rattle.machine.specs.Codes.{firstOf}
+use Rattle.machine.specs.Codes.{lowest}
 use Rattle.history.specs.BadRecords.{malformed}
 use Rattle.history.specs.History.{capacity}
 use Rattle.history.specs.Ring.{retreated, newest, popped}
 use Rattle.simulator.specs.Calls.{refused, done, whenDone}
 use Rattle.simulator.specs.Simulation.{Simulation, wellFormed}
 use Rattle.simulator.specs.Steps.{stepBackOf}
-use Rattle.simulator.specs.Taking.{undoneBy}
+use Rattle.simulator.specs.Inside.Taking.{undoneBy}
 use Rattle.simulator.proofs.Cursors.{placed, retreated-placed}
 use Rattle.simulator.proofs.Kept.{well-formed}
 
 module _ (s : Simulation) where
   pub back-setup : wellFormed s ≡ false → stepBackOf s ≡ refused Setup
-  unfolding stepBackOf firstOf
+  unfolding stepBackOf lowest
   back-setup h = rw h
 
   pub back-none : wellFormed s ≡ true → s .history .cursor .held ≡ 0 → stepBackOf s ≡ refused NoHistory
-  unfolding stepBackOf firstOf
+  unfolding stepBackOf lowest
   back-none h z = rw (h, z)
 
   -- with a record to read
@@ -43,7 +43,7 @@ module _ (s : Simulation) where
         omega (arith, retreated-placed (capacity (s .history)) (s .history .cursor) c p)
 
     pub back-undone : stepBackOf s ≡ undoneBy (take 8 (drop (8 * before .next) (s .history .words))) before s
-    unfolding stepBackOf firstOf undoneBy newest popped retreated
+    unfolding stepBackOf lowest undoneBy newest popped retreated
     back-undone = rw (h, ne-eqb (s .history .cursor .held) 0 some) (go (malformed (length (s .state .tags)) (newest (s .history))) _)
       where
         go : {X : Type 0} (t : Bool) (after : X) → whenDone (cond t BadRecord Done) after ≡ cond t (refused BadRecord) (done after)

@@ -1,68 +1,70 @@
--- A word judged, recorded and applied is a step. Assumes nothing.
+-- A decoded word taken on a setup that keeps the rules is a step. Assumes nothing.
 use Prim.Native.Nat.{ℕ, _*_}
-use mathlib.Core.Bool.{true}
-use mathlib.Core.Path.{_≡_, refl}
+use mathlib.Core.Bool.{Bool, true, false, cond}
+use mathlib.Core.List.{List}
+use mathlib.Core.Path.{_≡_, refl, sym, ap, _∙_}
 use lib.ListN.{length}
+use Rattle.isa.specs.declared.Form.{Form}
+use Rattle.isa.specs.declared.Decoded.{Decoded}
+use Rattle.isa.specs.declared.Decoded.the-variants.{Is}
+use Rattle.isa.specs.declared.Decoded.the-variants.{Undefined as NoForm}
 use Rattle.isa.specs.Decoding.{decodeOf}
-use Rattle.machine.specs.declared.Code.the-variants.{Done}
-use Rattle.machine.specs.Effects.{applied}
-use Rattle.machine.specs.Setup.{sound}
+use Rattle.memory.specs.Sizes.{sizesOk}
+use Rattle.machine.specs.Codes.{lowest, isDone}
 use Rattle.machine.specs.State.{State}
-use Rattle.machine.proofs.Setup.{state-sized}
-use Rattle.instructions.specs.declared.Judged.{Judged}
-use Rattle.instructions.specs.declared.Judged.the-variants.{Refused, Accepted}
-use Rattle.instructions.specs.Plans.{planOf, planOutcome, JudgedWithin}
-use Rattle.instructions.specs.Words.{wordOutcome}
-use Rattle.instructions.proofs.Judgement.{fits}
-use Rattle.instructions.proofs.Outcomes.{plan-outcome}
-use Rattle.instructions.proofs.Within.{plan-within}
+use Rattle.machine.proofs.Setup.{state-sized, state-sizes}
+use Rattle.instructions.specs.Accesses.{accessOf}
+use Rattle.instructions.specs.WordOutcomes.{codeOf, carriedOut, operation, wordOutcome}
+use Rattle.instructions.specs.Inside.Effects.{applied, formEffect}
+use Rattle.instructions.specs.Inside.Places.{accessCode}
+use Rattle.instructions.proofs.Outcomes.{form-outcome}
 use Rattle.history.specs.History.{capacity}
-use Rattle.history.proofs.Recorded.{plan-refusal, recorded, storable}
+use Rattle.history.specs.Recording.{recordOf}
+use Rattle.history.specs.Records.{wordsOf}
+use Rattle.history.specs.Ring.{pushed}
+use Rattle.history.specs.Inside.Slots.{entryOn}
+use Rattle.history.specs.Inside.StatusWords.{IsStatus}
+use Rattle.history.proofs.Recorded.{form-entry}
+use Rattle.simulator.specs.Calls.{Out, refused, done, whenDone}
 use Rattle.simulator.specs.Simulation.{Simulation, wellFormed}
 use Rattle.simulator.specs.Steps.{stepOf}
-use Rattle.simulator.specs.Taking.{CursorPlaced, JudgedStorable, judgedCarriedOut}
+use Rattle.simulator.specs.Inside.Taking.{Ready, formTaken, decodedTaken}
 use Rattle.simulator.proofs.Cursors.{placed}
 use Rattle.simulator.proofs.Kept.{well-formed}
 
-abbrev pub plan : State → ℕ → Judged
-plan s w = planOf (s .settings) (s .registers .x) (s .registers .status) (s .tags) (decodeOf w)
+-- a step by what its word decodes to
+abbrev stepBy : Decoded → Simulation → Out Simulation
+stepBy d s =
+    whenDone (codeOf true d (s .state))
+    (record {
+      state = cond (isDone (codeOf true d (s .state))) (Rattle.instructions.specs.WordOutcomes.carriedOut d (s .state)) (s .state);
+      history = pushed (recordOf d (s .state)) (s .history);
+    })
 
-outcome : (s : State) (w : ℕ) (j : Judged) → sound s ≡ true → plan s w ≡ j → planOutcome j s ≡ wordOutcome true w s
-unfolding wordOutcome
-outcome s w j h e = rw e at (plan-outcome s (decodeOf w) h)
-
-pub plan-step : (s : Simulation) (w : ℕ) → wellFormed s ≡ true → judgedCarriedOut (plan (s .state) w) s ≡ stepOf s w
-unfolding judgedCarriedOut stepOf planOutcome
-plan-step s w h = go (plan (s .state) w) refl
+pub decoded-step : (s : Simulation) (w : ℕ) → wellFormed s ≡ true → decodedTaken (decodeOf w) s ≡ stepOf s w
+unfolding stepOf wordOutcome decodedTaken formTaken lowest recordOf
+decoded-step s w h = rw h (go (decodeOf w))
   where
-    go : (j : Judged) → plan (s .state) w ≡ j → judgedCarriedOut j s ≡ stepOf s w
-    go (Refused code) e =
-        let o : record { code = code; state = s .state } ≡ wordOutcome true w (s .state) = outcome (s .state) w (Refused code) (well-formed s .0 h .0) e in
-        rw (h, ← o, plan-refusal (s .state) (decodeOf w) code e)
-    go (Accepted f) e =
-        let o : record { code = Done; state = applied f (s .state) } ≡ wordOutcome true w (s .state) = outcome (s .state) w (Accepted f) (well-formed s .0 h .0) e in
-        rw (h, ← o, recorded (s .state) (decodeOf w) f e)
+    taken : (f : Form) (t : Bool) → isDone (accessCode (s .state .settings .base) (length (s .state .tags)) (accessOf f (s .state))) ≡ t
+        → formTaken f s ≡ stepBy (Is f) s
+    taken f true k =
+        rw (k, ← (form-outcome (s .state) f (well-formed s .0 h .0) k), form-entry f (s .state))
+    taken f false k = rw k
 
--- what a word that was judged asks before it is carried out
-pub record Ready (judged : Judged) (s : Simulation) : Type 0 where
-  pub within : JudgedWithin judged (length (s .state .tags))
-  pub sixteen : length (s .state .bytes) ≡ 16 * length (s .state .tags)
-  pub placed : CursorPlaced (capacity (s .history)) (s .history .cursor)
-  pub storable : JudgedStorable judged (s .state .registers .x) (s .state .registers .status) (s .state .bytes) (s .state .tags)
+    go : (d : Decoded) → decodedTaken d s ≡ stepBy d s
+    go (Is f) = taken f (isDone (accessCode (s .state .settings .base) (length (s .state .tags)) (accessOf f (s .state)))) refl
+    go NoForm = refl
 
-pub plan-ready : (s : Simulation) (w : ℕ) → wellFormed s ≡ true → Ready (plan (s .state) w) s
-plan-ready s w h =
-    let (ok, rule) = well-formed s .0 h in
+-- what taking a word asks
+pub ready : (s : Simulation) (status : ℕ) → wellFormed s ≡ true → IsStatus status → Ready (s .history .words) (s .history .cursor) status
+ready s status h packed = record { placed = placed (capacity (s .history)) (s .history .cursor) (well-formed s .0 h .1); packed = packed }
+
+-- and of memory
+pub sizes : (s : Simulation) → wellFormed s ≡ true
+    → (sizesOk (s .state .settings .base) (16 * length (s .state .tags)) (length (s .state .tags)) ≡ true)
+    × (length (s .state .bytes) ≡ 16 * length (s .state .tags))
+sizes s h =
     let t = s .state in
+    let ok = well-formed s .0 h .0 in
     let sized = state-sized (t .settings) (t .registers .status) (length (t .bytes)) (length (t .tags)) ok in
-    record {
-      within = plan-within (t .settings) (t .registers .x) (t .registers .status) (t .tags) (decodeOf w) (rw (sized .sixteen) at ok);
-      sixteen = sized .sixteen;
-      placed = placed (capacity (s .history)) (s .history .cursor) rule;
-      storable = go ok (plan t w) refl;
-    }
-  where
-    go : sound (s .state) ≡ true → (j : Judged) → plan (s .state) w ≡ j
-        → JudgedStorable j (s .state .registers .x) (s .state .registers .status) (s .state .bytes) (s .state .tags)
-    go ok (Refused code) e = tt
-    go ok (Accepted f) e = storable (s .state) (decodeOf w) f ok (fits w) e
+    (rw (sized .sixteen) at (state-sizes (t .settings) (t .registers .status) (length (t .bytes)) (length (t .tags)) ok), sized .sixteen)

@@ -6,8 +6,8 @@ use mathlib.Core.Path.{_≡_, refl}
 use Rattle.machine.specs.declared.Code.{Code}
 use Rattle.machine.specs.declared.Code.the-variants.{NoHistory}
 use Rattle.machine.specs.Codes.{isDone}
-use Rattle.simulator.specs.Calls.{Call, refused, done, whenDone, inOrder, Machine, calls}
-use Rattle.simulator.proofs.Alike.{OutAlike, LeftAlike, EndedAlike, in-order-alike, calls-alike}
+use Rattle.simulator.specs.Calls.{Call, refused, done, whenDone, inOrder, Callable, calls}
+use Rattle.simulator.proofs.Alike.{OutAlike, ReturnedAlike, EndedAlike, in-order-alike, calls-alike}
 
 -- What a state, a log and a copy are is not known here: a log has to keep the laws of `UndoLog`, whatever its layout.
 
@@ -17,7 +17,7 @@ pub record Rules (S : Type 0) : Type 0 where
   pub after : S → ℕ → S
 
 -- a machine that stacks copies, newest first; a word may make the oldest go
-pub record Stacking {S Y : Type 0} (rules : Rules S) (K : Type 0) (plain : Machine Y) : Type 0 where
+pub record Stacking {S Y : Type 0} (rules : Rules S) (K : Type 0) (plain : Callable Y) : Type 0 where
   pub holding : S → List K → Y
   pub pile : S → ℕ → List K → List K
   pub copied : K → S
@@ -28,7 +28,7 @@ pub record Stacking {S Y : Type 0} (rules : Rules S) (K : Type 0) (plain : Machi
   pub newest : (s : S) (k : K) (ks : List K) → plain .back (holding s (k ∷ ks)) ≡ done (holding (copied k) ks)
 
 -- a machine that logs, as long as no rule of its setup is broken
-pub record Logging {S X : Type 0} (rules : Rules S) (L : Type 0) (ours : Machine X) : Type 0 where
+pub record Logging {S X : Type 0} (rules : Rules S) (L : Type 0) (ours : Callable X) : Type 0 where
   pub joined : S → L → X
   pub formed : S → L → Bool
   pub push : S → ℕ → L → L
@@ -36,7 +36,7 @@ pub record Logging {S X : Type 0} (rules : Rules S) (L : Type 0) (ours : Machine
       → ours .step (joined s l) w ≡ whenDone (rules .code s w) (joined (rules .after s w) (push s w l))
   pub runs : (s : S) (l : L) (ws : List ℕ) → formed s l ≡ true → ours .run (joined s l) ws ≡ inOrder (ours .step) (joined s l) ws
 
-module _ {S X Y L K : Type 0} {rules : Rules S} {ours : Machine X} {plain : Machine Y}
+module _ {S X Y L K : Type 0} {rules : Rules S} {ours : Callable X} {plain : Callable Y}
     (logs : Logging rules L ours) (stacks : Stacking rules K plain) where
   -- a step back gives the copy k, and a log that undoes to the older ones
   pub record Popped (Undoes : S → L → List K → Type 0) (s : S) (l : L) (k : K) (ks : List K) : Type 0 where
@@ -70,7 +70,7 @@ module _ {S X Y L K : Type 0} {rules : Rules S} {ours : Machine X} {plain : Mach
         go true e = beside (rules .after s w) (logs .push s w l) (stacks .pile s w ks) (laws .pushes s l ks w u e)
         go false e = refl
 
-    run-alike : (x : X) (y : Y) (ws : List ℕ) → Beside x y → LeftAlike Beside (ours .run x ws) (plain .run y ws)
+    run-alike : (x : X) (y : Y) (ws : List ℕ) → Beside x y → ReturnedAlike Beside (ours .run x ws) (plain .run y ws)
     run-alike x y ws (beside s l ks u) =
         rw (logs .runs s l ws (laws .holds s l ks u), stacks .runs (stacks .holding s ks) ws)
         (in-order-alike Beside (ours .step) (plain .step) step-alike ws _ _ (beside s l ks u))

@@ -24,35 +24,35 @@ pub record Answer : Type 0 where
   pub code : Code
   pub count : ℕ
 
--- the answer to a call, and the machine after it
-pub record Left (X : Type 0) : Type 0 where
+-- what a call returns: its answer, and the machine after it
+pub record Returned (X : Type 0) : Type 0 where
   pub answer : Answer
   pub after : X
 
-abbrev pub left : {X : Type 0} → Code → ℕ → X → Left X
-left code count after = record { answer = record { code = code; count = count }; after = after }
+abbrev pub returned : {X : Type 0} → Code → ℕ → X → Returned X
+returned code count after = record { answer = record { code = code; count = count }; after = after }
 
-abbrev pub answered : {X : Type 0} → X → Out X → Left X
-answered before (refused code) = left code 0 before
-answered before (done after) = left Done 0 after
+abbrev pub answered : {X : Type 0} → X → Out X → Returned X
+answered before (refused code) = returned code 0 before
+answered before (done after) = returned Done 0 after
 
 -- one word more was done before the others
-abbrev pub oneMore : {X : Type 0} → Left X → Left X
-oneMore l = left (l .answer .code) (suc (l .answer .count)) (l .after)
+abbrev pub oneMore : {X : Type 0} → Returned X → Returned X
+oneMore l = returned (l .answer .code) (suc (l .answer .count)) (l .after)
 
 -- the words are steps in order up to the first refused one; the code is that one's, or 0 if there is none; the count is how many
 -- had code 0
-unfoldable pub inOrder : {X : Type 0} → (X → ℕ → Out X) → X → List ℕ → Left X
-inOrder step before [] = left Done 0 before
-inOrder step before (w ∷ ws) = elim (step before w) [ refused code ↦ left code 0 before | done after ↦ oneMore (inOrder step after ws) ]
+unfoldable pub inOrder : {X : Type 0} → (X → ℕ → Out X) → X → List ℕ → Returned X
+inOrder step before [] = returned Done 0 before
+inOrder step before (w ∷ ws) = elim (step before w) [ refused code ↦ returned code 0 before | done after ↦ oneMore (inOrder step after ws) ]
 
 -- a machine that takes calls
-pub record Machine (X : Type 0) : Type 0 where
+pub record Callable (X : Type 0) : Type 0 where
   pub step : X → ℕ → Out X
-  pub run : X → List ℕ → Left X
+  pub run : X → List ℕ → Returned X
   pub back : X → Out X
 
-unfoldable pub call : {X : Type 0} → Machine X → X → Call → Left X
+unfoldable pub call : {X : Type 0} → Callable X → X → Call → Returned X
 call m before (stepCall w) = answered before (m .step before w)
 call m before (runCall ws) = m .run before ws
 call m before backCall = answered before (m .back before)
@@ -66,6 +66,6 @@ abbrev pub andThen : {X : Type 0} → Answer → Ended X → Ended X
 andThen a e = record { answers = a ∷ e .answers; final = e .final }
 
 -- each call gets the machine as the last one left it
-unfoldable pub calls : {X : Type 0} → Machine X → X → List Call → Ended X
+unfoldable pub calls : {X : Type 0} → Callable X → X → List Call → Ended X
 calls m before [] = record { answers = []; final = before }
 calls m before (c ∷ cs) = andThen (call m before c .answer) (calls m (call m before c .after) cs)

@@ -5,7 +5,7 @@ use mathlib.Core.Path.{_≡_}
 use lib.ListN.{length}
 use Rattle.machine.specs.State.{Typed}
 use Rattle.machine.specs.Setup.{slotsOf}
-use Rattle.simulator.specs.Calls.{Call, Ended, Machine, calls}
+use Rattle.simulator.specs.Calls.{Call, Ended, Callable, calls}
 use Rattle.simulator.specs.PlainMachine.{Plain, plainMachine}
 use Rattle.simulator.specs.Simulation.{Simulation, wellFormed}
 
@@ -15,7 +15,7 @@ pub record Agree (ours : Ended Simulation) (plain : Ended Plain) : Type 0 where
   pub state : ours .final .state ≡ plain .final .state
 
 -- the plain machine beside a start: with room for as many copies as the history has slots
-abbrev pub plainBeside : Simulation → Machine Plain
+abbrev pub plainBeside : Simulation → Callable Plain
 plainBeside start = plainMachine (slotsOf (length (start .history .words)))
 
 -- its own start: its state equal to ours, its stack empty
@@ -23,7 +23,7 @@ abbrev pub plainStart : Simulation → Plain
 plainStart start = record { state = start .state; copies = [] }
 
 -- Start from any well-formed setup with an empty history: held = 0, whatever next is and its words hold.
-unfoldable pub Demand3 : Machine Simulation → Type 0
+unfoldable pub Demand3 : Callable Simulation → Type 0
 Demand3 ours =
     (start : Simulation) → Typed (start .state) → wellFormed start ≡ true → start .history .cursor .held ≡ 0 → (list : List Call)
     → Agree (calls ours start list) (calls (plainBeside start) (plainStart start) list)

@@ -5,8 +5,8 @@ use lib.ListN.{take}
 use Rattle.machine.specs.declared.Code.the-variants.{NoHistory}
 use Rattle.machine.specs.State.{State}
 use Rattle.machine.specs.Setup.{sound}
-use Rattle.instructions.specs.Words.{Outcome, wordOutcome}
-use Rattle.simulator.specs.Calls.{Out, refused, done, Machine, whenDone, inOrder}
+use Rattle.instructions.specs.WordOutcomes.{Outcome, wordOutcome}
+use Rattle.simulator.specs.Calls.{Out, refused, done, Callable, whenDone, inOrder}
 
 -- its state, and the copies, newest first
 pub record Plain : Type 0 where
@@ -26,5 +26,5 @@ plainBack [] = refused NoHistory
 plainBack (newest ∷ older) = done (record { state = newest; copies = older })
 
 -- with room for c copies
-abbrev pub plainMachine : ℕ → Machine Plain
+abbrev pub plainMachine : ℕ → Callable Plain
 plainMachine c = record { step = plainStep c; run = inOrder (plainStep c); back = λ p. plainBack (p .copies) }

@@ -11,7 +11,7 @@ use Rattle.machine.specs.Codes.{codeNumber}
 use Rattle.machine.specs.State.{State}
 use Rattle.simulator.specs.declared.playing.PlayCode.{PlayCode}
 use Rattle.simulator.specs.declared.playing.PlayCode.the-variants.{Done, NoRoom, NoWords}
-use Rattle.simulator.specs.Calls.{Answer, Call, stepCall, runCall, backCall, Ended, Machine, calls}
+use Rattle.simulator.specs.Calls.{Answer, Call, stepCall, runCall, backCall, Ended, Callable, calls}
 use Rattle.simulator.specs.Demand3.{plainBeside, plainStart}
 use Rattle.simulator.specs.PlainMachine.{Plain}
 use Rattle.simulator.specs.Simulation.{Simulation, wellFormed}
@@ -34,19 +34,19 @@ allTaken [] = 0
 allTaken (n ∷ ns) = wordsTaken n + allTaken ns
 
 -- a call's number, and the words that it takes
-abbrev pub numberOf : Call → ℕ
-numberOf (stepCall word) = 1
-numberOf (runCall words) = 2 + length words
-numberOf backCall = 0
+abbrev pub callNumber : Call → ℕ
+callNumber (stepCall word) = 1
+callNumber (runCall words) = 2 + length words
+callNumber backCall = 0
 
-abbrev pub wordsOf : Call → List ℕ
-wordsOf (stepCall word) = word ∷ []
-wordsOf (runCall words) = words
-wordsOf backCall = []
+abbrev pub callWords : Call → List ℕ
+callWords (stepCall word) = word ∷ []
+callWords (runCall words) = words
+callWords backCall = []
 
 abbrev pub allWords : List Call → List ℕ
 allWords [] = []
-allWords (c ∷ cs) = wordsOf c ++ allWords cs
+allWords (c ∷ cs) = callWords c ++ allWords cs
 
 abbrev pub playNumber : PlayCode → ℕ
 playNumber Done = 0
@@ -66,8 +66,8 @@ playCode numbers words codes counts =
 unfoldable pub EveryListIsPlayed : Type 0
 EveryListIsPlayed =
     (list : List Call)
-    → (listed (map numberOf list) (allWords list) ≡ list)
-    × (playCode (map numberOf list) (length (allWords list)) (length list) (length list) ≡ Done)
+    → (listed (map callNumber list) (allWords list) ≡ list)
+    × (playCode (map callNumber list) (length (allWords list)) (length list) (length list) ≡ Done)
 
 -- the code of the list, how many of its calls were played, the places for codes and for counts, and the machine after it
 pub record Played (X : Type 0) : Type 0 where
@@ -88,7 +88,7 @@ countsOf = map (λ (a : Answer). a .count)
 
 -- A list is refused, and nothing changes; or it is played whole, and the codes and counts of its calls are written from the first place
 -- on, the places behind them staying as they are.
-unfoldable pub playOf : {X : Type 0} → Machine X → X → List ℕ → List ℕ → List ℕ → List ℕ → Played X
+unfoldable pub playOf : {X : Type 0} → Callable X → X → List ℕ → List ℕ → List ℕ → List ℕ → Played X
 playOf {X} m start numbers words codes counts =
     let code : PlayCode = playCode numbers (length words) (length codes) (length counts) in
     let e : Ended X = calls m start (listed numbers words) in

@@ -153,7 +153,7 @@ pub fn step_back(machine: Machine, bytes: &mut [u8], tags: &mut [u8], history: &
         let cursor = machine.cursor;
         let mut x = machine.registers.x;
         let packed = status_words::pack(status);
-        let end = undoing::back(&mut x, packed, cursor, bytes, tags, history);
+        let end = undoing::back(&mut x, settings, packed, cursor, bytes, tags, history);
         let code = end.code;
         let moved = end.cursor;
         return Stepped {

@@ -1,11 +1,14 @@
 // A list of calls played one after the other. The calls are numbers, beside the words that they take in order.
+ghost use mathlib.Core.Bool.{cond, true};
 ghost use mathlib.Core.Path.{_≡_};
 ghost use Prim.Native.Nat.{_^_, _<_, _≤_};
-ghost use lib.Dec.{ltb};
+ghost use lib.Dec.{eqb, ltb};
 ghost use lib.ListN.{length};
-ghost use Rattle.simulator.specs.Calls.{call, left};
+ghost use Rattle.history.specs.Inside.StatusWords.{IsStatus};
+ghost use Rattle.simulator.specs.Calls.{call};
+ghost use Rattle.simulator.specs.Inside.Taking.{Made, gathered};
 ghost use Rattle.simulator.specs.Playing.{AsPlain, allTaken, callOf, playCode, playNumber, playOf, played, wordsTaken};
-ghost use Rattle.simulator.specs.Simulation.{simulation};
+ghost use Rattle.simulator.specs.Simulation.{simulation, wellFormed};
 ghost use Rattle.simulator.specs.Steps.{simulator};
 use super::After;
 use super::undoing;
@@ -106,7 +109,7 @@ fn make_call(
     history: &mut [u64],
 ) -> After {
     if number == BACK {
-        return undoing::back(x, status, cursor, bytes, tags, &history[..]);
+        return undoing::back(x, settings, status, cursor, bytes, tags, &history[..]);
     }
     let n = words_taken(number);
     let end = words::take_all(

@@ -8,6 +8,7 @@ ghost use Rattle.isa.specs.declared.TwoSourceOp.the-variants.{Gmi, Irg, Subp, S
 ghost use Rattle.isa.specs.Decoding.{twoSourceAt};
 ghost use Rattle.isa.specs.Inside.DecodingBranches.{addSubBranch, ifBit21, subpsBranch, twoSourceBranch};
 ghost use Rattle.machine.specs.declared.Settings.{Settings};
+ghost use Rattle.history.specs.Inside.StatusWords.{IsStatus};
 ghost use Rattle.simulator.specs.Inside.Taking.{Ready, TookBeside, decodedTaken, registerTaken};
 use super::Taken;
 use history::status_words;
@@ -32,7 +33,8 @@ pub(crate) fn set(
     requires { ⌜ n ≤ 32 ⌝ }
     requires { ⌜ Ready (now history) cursor status ⌝ }
     requires { ⌜ IsStatus after ⌝ }
-    ensures { λ r. ⌜ ((settings : Settings) → TookBeside r (registerTaken n v after) settings (now (x .entry)) status (now (history .entry)) cursor (now (x .exit)) (now (history .exit))) ⌝ }
+    ensures { λ r. let x′ = now (x .exit) in let words′ = now (history .exit) in
+        ⌜ ((settings : Settings) → TookBeside r (registerTaken n v after) settings (now (x .entry)) status (now (history .entry)) cursor x′ words′) ⌝ }
 {
     let old = register_file::x_or_sp(&*x, n);
     let moved = history::push(history, cursor, n + status, old, 0, 0, 0, 0, 0);
@@ -55,7 +57,8 @@ pub(crate) fn add_sub(
     history: &mut [u64],
 ) -> Taken
     requires { ⌜ Ready (now history) cursor status ⌝ }
-    ensures { λ r. ⌜ TookBeside r (decodedTaken (addSubBranch op w)) settings (now (x .entry)) status (now (history .entry)) cursor (now (x .exit)) (now (history .exit)) ⌝ }
+    ensures { λ r. let x′ = now (x .exit) in let words′ = now (history .exit) in
+        ⌜ TookBeside r (decodedTaken (addSubBranch op w)) settings (now (x .entry)) status (now (history .entry)) cursor x′ words′ ⌝ }
 {
     if bits::field(w, 14, 2) != 0 {
         return Taken {
@@ -75,7 +78,8 @@ pub(crate) fn add_sub(
 
 fn subp(x: &mut [u64; 32], status: u64, cursor: Cursor, w: u64, history: &mut [u64]) -> Taken
     requires { ⌜ Ready (now history) cursor status ⌝ }
-    ensures { λ r. ⌜ ((settings : Settings) → TookBeside r (decodedTaken (Is (twoSourceAt Subp w))) settings (now (x .entry)) status (now (history .entry)) cursor (now (x .exit)) (now (history .exit))) ⌝ }
+    ensures { λ r. let x′ = now (x .exit) in let words′ = now (history .exit) in
+        ⌜ ((settings : Settings) → TookBeside r (decodedTaken (Is (twoSourceAt Subp w))) settings (now (x .entry)) status (now (history .entry)) cursor x′ words′) ⌝ }
 {
     let d = bits::field(w, 0, 5);
     let n = bits::field(w, 5, 5);
@@ -97,7 +101,8 @@ fn subp(x: &mut [u64; 32], status: u64, cursor: Cursor, w: u64, history: &mut [u
 
 fn gmi(x: &mut [u64; 32], status: u64, cursor: Cursor, w: u64, history: &mut [u64]) -> Taken
     requires { ⌜ Ready (now history) cursor status ⌝ }
-    ensures { λ r. ⌜ ((settings : Settings) → TookBeside r (decodedTaken (Is (twoSourceAt Gmi w))) settings (now (x .entry)) status (now (history .entry)) cursor (now (x .exit)) (now (history .exit))) ⌝ }
+    ensures { λ r. let x′ = now (x .exit) in let words′ = now (history .exit) in
+        ⌜ ((settings : Settings) → TookBeside r (decodedTaken (Is (twoSourceAt Gmi w))) settings (now (x .entry)) status (now (history .entry)) cursor x′ words′) ⌝ }
 {
     let d = bits::field(w, 0, 5);
     let n = bits::field(w, 5, 5);
@@ -126,7 +131,8 @@ fn irg(
     history: &mut [u64],
 ) -> Taken
     requires { ⌜ Ready (now history) cursor status ⌝ }
-    ensures { λ r. ⌜ TookBeside r (decodedTaken (Is (twoSourceAt Irg w))) settings (now (x .entry)) status (now (history .entry)) cursor (now (x .exit)) (now (history .exit)) ⌝ }
+    ensures { λ r. let x′ = now (x .exit) in let words′ = now (history .exit) in
+        ⌜ TookBeside r (decodedTaken (Is (twoSourceAt Irg w))) settings (now (x .entry)) status (now (history .entry)) cursor x′ words′ ⌝ }
 {
     let d = bits::field(w, 0, 5);
     let n = bits::field(w, 5, 5);
@@ -171,7 +177,8 @@ pub(crate) fn two_source(
     history: &mut [u64],
 ) -> Taken
     requires { ⌜ Ready (now history) cursor status ⌝ }
-    ensures { λ r. ⌜ TookBeside r (decodedTaken (ifBit21 w 0 (twoSourceBranch (bitsAt w 10 6) w))) settings (now (x .entry)) status (now (history .entry)) cursor (now (x .exit)) (now (history .exit)) ⌝ }
+    ensures { λ r. let x′ = now (x .exit) in let words′ = now (history .exit) in
+        ⌜ TookBeside r (decodedTaken (ifBit21 w 0 (twoSourceBranch (bitsAt w 10 6) w))) settings (now (x .entry)) status (now (history .entry)) cursor x′ words′ ⌝ }
 {
     if bits::field(w, 21, 1) == 0 {
         let opcode = bits::field(w, 10, 6);
@@ -203,7 +210,8 @@ pub(crate) fn subps(
     history: &mut [u64],
 ) -> Taken
     requires { ⌜ Ready (now history) cursor status ⌝ }
-    ensures { λ r. ⌜ TookBeside r (decodedTaken (ifBit21 w 0 (subpsBranch (bitsAt w 10 6) w))) settings (now (x .entry)) status (now (history .entry)) cursor (now (x .exit)) (now (history .exit)) ⌝ }
+    ensures { λ r. let x′ = now (x .exit) in let words′ = now (history .exit) in
+        ⌜ TookBeside r (decodedTaken (ifBit21 w 0 (subpsBranch (bitsAt w 10 6) w))) settings (now (x .entry)) status (now (history .entry)) cursor x′ words′ ⌝ }
 {
     if bits::field(w, 21, 1) + bits::field(w, 10, 6) != 0 {
         return Taken {
