@@ -305,14 +305,62 @@ fn tag_stores(
 {
     if bits::field(w, 23, 1) == 1 {
         if bits::field(w, 22, 1) == 1 {
-            return tag_store(x, settings, status, cursor, 2, true, mode, w, bytes, tags, history);
+            return tag_store(
+                x,
+                settings,
+                status,
+                cursor,
+                2,
+                true,
+                mode,
+                w,
+                bytes,
+                tags,
+                history,
+            );
         }
-        return tag_store(x, settings, status, cursor, 2, false, mode, w, bytes, tags, history);
+        return tag_store(
+            x,
+            settings,
+            status,
+            cursor,
+            2,
+            false,
+            mode,
+            w,
+            bytes,
+            tags,
+            history,
+        );
     }
     if bits::field(w, 22, 1) == 1 {
-        return tag_store(x, settings, status, cursor, 1, true, mode, w, bytes, tags, history);
+        return tag_store(
+            x,
+            settings,
+            status,
+            cursor,
+            1,
+            true,
+            mode,
+            w,
+            bytes,
+            tags,
+            history,
+        );
     }
-    tag_store(x, settings, status, cursor, 1, false, mode, w, bytes, tags, history)
+    tag_store(
+        x,
+        settings,
+        status,
+        cursor,
+        1,
+        false,
+        mode,
+        w,
+        bytes,
+        tags,
+        history,
+    )
 }
 
 // LDG and the tag stores, whose bits 31:24 are known: bit 21 is one, and bits 11:10 are the mode or, for LDG, zero.
