@@ -1,54 +1,71 @@
+-- `simulator::register_words::gmi` meets its contract. Assumes nothing.
 use borrow.Author.Needs.{needs}
+use mathlib.Core.Path.{_≡_}
+use native.Mathlib.Omega.{arith}
+use Rattle.machine.specs.Codes.{lowest}
+use Rattle.isa.specs.declared.Decoded.the-variants.{Is}
+use Rattle.isa.specs.Decoding.{twoSourceAt}
+use Rattle.instructions.proofs.Within.{or-none-le}
+use Rattle.simulator.specs.Simulation.{Simulation}
+use Rattle.simulator.specs.Inside.Taking.{formTaken, decodedTaken, gathered, registerTaken}
+use Rattle.isa.specs.declared.TwoSourceOp.the-variants.{Gmi}
 use Rattle.simulator.proofs.register_words.gmi.Statement.{statement}
 use Rattle.simulator.proofs.register_words.gmi.Tie as tie
-use Rattle.simulator.proofs.register_words.gmi.Reads as reads
-use Rattle.simulator.proofs.register_words.gmi.Lts as lts
-use Rattle.bits.proofs.field.Reads as field-reads
-use Rattle.instructions.proofs.pointers.insert.Reads as insert-reads
-use Rattle.machine.proofs.register_file.or_none.Reads as or-none-reads
-use Rattle.machine.proofs.register_file.x_or_sp.Reads as x-or-sp-reads
-use Rattle.machine.proofs.register_file.x_or_zero.Reads as x-or-zero-reads
-use Rattle.simulator.proofs.register_words.set.Reads as set-reads
 
--- src/register_words.rt:107:9
 field-requires : tie.Need-field-requires
 field-requires c κs = search needs
 
--- src/register_words.rt:108:9
 field-requires-2 : tie.Need-field-requires-2
 field-requires-2 c κs = search needs
 
--- src/register_words.rt:109:9
 field-requires-3 : tie.Need-field-requires-3
 field-requires-3 c κs = search needs
 
--- src/register_words.rt:111:9
 x-or-zero-requires : tie.Need-x-or-zero-requires
 x-or-zero-requires c κs = search needs
 
--- src/register_words.rt:112:9
 x-or-sp-requires : tie.Need-x-or-sp-requires
 x-or-sp-requires c κs = search needs
 
--- src/register_words.rt:110:9
 insert-requires : tie.Need-insert-requires
 insert-requires c κs = search needs
 
--- src/register_words.rt:118:9
 or-none-requires : tie.Need-or-none-requires
 or-none-requires c κs = search needs
 
--- src/register_words.rt:114:5
 set-requires : tie.Need-set-requires
-set-requires c κs = ?
+set-requires c κs =
+    let valued = c .before .before .before in
+    let fields = valued .before .before .before .before .before in
+    let start = fields .before .before .before .before in
+    (rw (c .before .or-none .ensures) (or-none-le (fields .before .before .field .result) (omega arith)), (start .pre, start .pre .packed))
 
--- src/register_words.rt:102:1
 same-length : tie.Need-same-length
 same-length c = search needs
 
--- src/register_words.rt:102:1
 returns : tie.Need-returns
-returns c = ?
+unfolding decodedTaken formTaken lowest
+returns c =
+    let told = c .before .before in
+    let target = told .before .before in
+    let valued = target .before .before in
+    let second = valued .before in
+    let first = second .before .before in
+    let fields = first .before .before in
+    let a = fields .before .before .before .before .args in
+    λ settings bytes tags.
+    let s : Simulation = gathered settings (a .x .now) (a .status) bytes tags (a .history .now) (a .cursor) in
+    let p : decodedTaken (Is (twoSourceAt Gmi (a .w))) s ≡ registerTaken (target .or-none .result) (valued .insert .result) (a .status) s =
+    rw (
+      valued .insert .ensures,
+      second .x-or-sp .ensures,
+      first .x-or-zero .ensures,
+      target .or-none .ensures,
+      fields .field3 .ensures,
+      fields .before .field2 .ensures,
+      fields .before .before .field .ensures,
+    ) in
+    rw p (told .set .ensures settings bytes tags)
 
 pub gmi-spec : {M : Type 1} → statement M
 gmi-spec =

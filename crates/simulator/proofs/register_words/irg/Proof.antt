@@ -1,90 +1,115 @@
+-- `simulator::register_words::irg` meets its contract. Assumes nothing.
 use borrow.Author.Needs.{needs}
+use mathlib.Core.Path.{_≡_}
+use Rattle.machine.specs.Codes.{lowest}
+use Rattle.isa.specs.declared.Decoded.the-variants.{Is}
+use Rattle.isa.specs.declared.TwoSourceOp.the-variants.{Irg}
+use Rattle.isa.specs.Decoding.{twoSourceAt}
+use Rattle.simulator.specs.Simulation.{Simulation}
+use Rattle.simulator.specs.Inside.Taking.{formTaken, decodedTaken, gathered, registerTaken}
 use Rattle.simulator.proofs.register_words.irg.Statement.{statement}
 use Rattle.simulator.proofs.register_words.irg.Tie as tie
-use Rattle.simulator.proofs.register_words.irg.Reads as reads
-use Rattle.simulator.proofs.register_words.irg.Lts as lts
-use Rattle.bits.proofs.field.Reads as field-reads
-use Rattle.history.proofs.status_words.rgsr.Reads as rgsr-reads
-use Rattle.history.proofs.status_words.seed.Reads as seed-reads
-use Rattle.history.proofs.status_words.with_rgsr.Reads as with-rgsr-reads
-use Rattle.instructions.proofs.random_tag.choose.Reads as choose-reads
-use Rattle.instructions.proofs.random_tag.mask_of.Reads as mask-of-reads
-use Rattle.machine.proofs.register_file.x_or_sp.Reads as x-or-sp-reads
-use Rattle.machine.proofs.register_file.x_or_zero.Reads as x-or-zero-reads
-use Rattle.simulator.proofs.register_words.set.Reads as set-reads
-use Rattle.tag.proofs.with_tag.Reads as with-tag-reads
 
--- src/register_words.rt:137:9
 field-requires : tie.Need-field-requires
 field-requires c κs = search needs
 
--- src/register_words.rt:138:9
 field-requires-2 : tie.Need-field-requires-2
 field-requires-2 c κs = search needs
 
--- src/register_words.rt:139:9
 field-requires-3 : tie.Need-field-requires-3
 field-requires-3 c κs = search needs
 
--- src/register_words.rt:140:9
 x-or-sp-requires : tie.Need-x-or-sp-requires
 x-or-sp-requires c κs = search needs
 
--- src/register_words.rt:142:50
 x-or-zero-requires : tie.Need-x-or-zero-requires
 x-or-zero-requires c κs = search needs
 
--- src/register_words.rt:142:13
 mask-of-requires : tie.Need-mask-of-requires
 mask-of-requires c κs = search needs
 
--- src/register_words.rt:144:13
 rgsr-requires : tie.Need-rgsr-requires
 rgsr-requires c κs = search needs
 
--- src/register_words.rt:145:13
 seed-requires : tie.Need-seed-requires
 seed-requires c κs = search needs
 
--- src/register_words.rt:143:13
 choose-requires : tie.Need-choose-requires
 choose-requires c κs = search needs
 
--- src/register_words.rt:148:13
 with-rgsr-requires : tie.Need-with-rgsr-requires
 with-rgsr-requires c κs = search needs
 
--- src/register_words.rt:154:13
 with-tag-requires : tie.Need-with-tag-requires
 with-tag-requires c κs = search needs
 
--- src/register_words.rt:149:9
 set-requires : tie.Need-set-requires
 set-requires c κs = search needs
 
--- src/register_words.rt:149:9
 same-length : tie.Need-same-length
 same-length c = search needs
 
--- src/register_words.rt:149:9
 returns : tie.Need-returns
-returns c = ?
+unfolding decodedTaken formTaken lowest
+returns c =
+    let told = c .before .before in
+    let tagged = told .before .before in
+    let moved = tagged .before .before in
+    let chosen = moved .before in
+    let masked = chosen .before .before .before in
+    let tested = masked .before .before .before in
+    let fields = tested .before .before .before in
+    let a = fields .before .before .before .before .args in
+    λ bytes tags.
+    let s : Simulation = gathered (a .settings) (a .x .now) (a .status) bytes tags (a .history .now) (a .cursor) in
+    let p : decodedTaken (Is (twoSourceAt Irg (a .w))) s
+    ≡ registerTaken (fields .before .before .field .result) (tagged .with-tag .result) (moved .with-rgsr .result) s =
+    rw (
+      tested .if1 .taken,
+      tagged .with-tag .ensures,
+      moved .with-rgsr .ensures .0,
+      chosen .choose .ensures .0,
+      chosen .choose .ensures .1 .1,
+      masked .mask-of .ensures,
+      masked .before .x-or-zero .ensures,
+      chosen .before .before .rgsr .ensures .0,
+      chosen .before .seed .ensures,
+      tested .before .x-or-sp .ensures,
+      fields .field3 .ensures,
+      fields .before .field2 .ensures,
+      fields .before .before .field .ensures,
+    ) in
+    rw p (told .set .ensures (a .settings) bytes tags)
 
--- src/register_words.rt:164:9
 with-tag-requires-2 : tie.Need-with-tag-requires-2
 with-tag-requires-2 c κs = search needs
 
--- src/register_words.rt:159:5
 set-requires-2 : tie.Need-set-requires-2
 set-requires-2 c κs = search needs
 
--- src/register_words.rt:125:1
 same-length-2 : tie.Need-same-length-2
 same-length-2 c = search needs
 
--- src/register_words.rt:125:1
 returns-2 : tie.Need-returns-2
-returns-2 c = ?
+unfolding decodedTaken formTaken lowest
+returns-2 c =
+    let told = c .before .before in
+    let tagged = told .before .before in
+    let tested = tagged .before .before in
+    let fields = tested .before .before .before in
+    let a = fields .before .before .before .before .args in
+    λ bytes tags.
+    let s : Simulation = gathered (a .settings) (a .x .now) (a .status) bytes tags (a .history .now) (a .cursor) in
+    let p : decodedTaken (Is (twoSourceAt Irg (a .w))) s
+    ≡ registerTaken (fields .before .before .field .result) (tagged .with-tag2 .result) (a .status) s =
+    rw (
+      tested .if1 .left,
+      tagged .with-tag2 .ensures,
+      tested .before .x-or-sp .ensures,
+      fields .before .field2 .ensures,
+      fields .before .before .field .ensures,
+    ) in
+    rw p (told .set2 .ensures (a .settings) bytes tags)
 
 pub irg-spec : {M : Type 1} → statement M
 irg-spec =

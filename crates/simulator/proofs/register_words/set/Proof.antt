@@ -1,35 +1,41 @@
+-- `simulator::register_words::set` meets its contract. Assumes nothing.
 use borrow.Author.Needs.{needs}
+use Rattle.machine.specs.declared.Code.the-variants.{Done}
+use Rattle.machine.specs.State.{stateOf}
+use Rattle.history.specs.Inside.StatusWords.{statusIn}
+use Rattle.simulator.specs.Calls.{returned}
+use Rattle.simulator.proofs.RegisterRecords.{register-record, status-small}
 use Rattle.simulator.proofs.register_words.set.Statement.{statement}
 use Rattle.simulator.proofs.register_words.set.Tie as tie
-use Rattle.simulator.proofs.register_words.set.Reads as reads
-use Rattle.simulator.proofs.register_words.set.Lts as lts
-use Rattle.history.proofs.push.Reads as push-reads
-use Rattle.machine.proofs.register_file.write.Reads as write-reads
-use Rattle.machine.proofs.register_file.x_or_sp.Reads as x-or-sp-reads
 
--- src/register_words.rt:39:9
 x-or-sp-requires : tie.Need-x-or-sp-requires
 x-or-sp-requires c κs = search needs
 
--- src/register_words.rt:40:48
 add-push : tie.Need-add-push
 add-push c = search needs
 
--- src/register_words.rt:40:9
 push-requires : tie.Need-push-requires
 push-requires c κs = search needs
 
--- src/register_words.rt:41:5
 write-requires : tie.Need-write-requires
 write-requires c κs = search needs
 
--- src/register_words.rt:24:1
 same-length : tie.Need-same-length
 same-length c = search needs
 
--- src/register_words.rt:24:1
 returns : tie.Need-returns
-returns c = ?
+returns c =
+    let pushed = c .before .before .before .before in
+    let read = pushed .before .before in
+    let start = read .before .before .before in
+    let a = start .args in
+    λ settings bytes tags.
+    let record-words = register-record (a .n) (a .status) (start .pre .1 .0 .packed) settings (a .x .now) bytes tags in
+    let history = rw (read .x-or-sp .ensures, record-words) at (pushed .push .ensures) in
+    record {
+      same = λ i. returned Done 0 (record { state = stateOf settings (c .write .ensures i) (statusIn (a .after)) bytes tags; history = history i });
+      packed = start .pre .1 .1;
+    }
 
 pub set-spec : {M : Type 1} → statement M
 set-spec =

@@ -1,64 +1,89 @@
+-- `simulator::register_words::two_source` meets its contract. Assumes nothing.
 use borrow.Author.Needs.{needs}
+use Prim.Native.Nat.{ℕ}
+use mathlib.Core.Path.{_≡_, refl}
+use borrow.Author.Tests.{eq-eqb, ne-eqb}
+use Rattle.bits.specs.Fields.{bitsAt}
+use Rattle.isa.specs.declared.Decoded.the-variants.{Is, Undefined}
+use Rattle.isa.specs.declared.TwoSourceOp.the-variants.{Subp, Irg, Gmi}
+use Rattle.isa.specs.Decoding.{twoSourceAt}
+use Rattle.isa.specs.Inside.DecodingBranches.{ifBit21, twoSourceBranch}
+use Rattle.isa.proofs.Branches.{at-key, other-bit}
+use Rattle.simulator.specs.Inside.Taking.{decodedTaken}
 use Rattle.simulator.proofs.register_words.two_source.Statement.{statement}
 use Rattle.simulator.proofs.register_words.two_source.Tie as tie
-use Rattle.simulator.proofs.register_words.two_source.Reads as reads
-use Rattle.simulator.proofs.register_words.two_source.Lts as lts
-use Rattle.bits.proofs.field.Reads as field-reads
-use Rattle.simulator.proofs.register_words.gmi.Reads as gmi-reads
-use Rattle.simulator.proofs.register_words.irg.Reads as irg-reads
-use Rattle.simulator.proofs.register_words.subp.Reads as subp-reads
 
--- src/register_words.rt:183:8
 field-requires : tie.Need-field-requires
 field-requires c κs = search needs
 
--- src/register_words.rt:184:13
 field-requires-2 : tie.Need-field-requires-2
 field-requires-2 c κs = search needs
 
--- src/register_words.rt:186:18
 subp-requires : tie.Need-subp-requires
 subp-requires c κs = search needs
 
--- src/register_words.rt:187:18
 irg-requires : tie.Need-irg-requires
 irg-requires c κs = search needs
 
--- src/register_words.rt:188:18
 gmi-requires : tie.Need-gmi-requires
 gmi-requires c κs = search needs
 
--- src/register_words.rt:185:9
 same-length : tie.Need-same-length
 same-length c = search needs
 
--- src/register_words.rt:185:9
 returns : tie.Need-returns
-returns c = ?
+returns c =
+    let told = c .before .before in
+    let known = told .before .before .before in
+    let tested = known .before .before in
+    let a = tested .before .before .before .args in
+    let e : Is (twoSourceAt Subp (a .w)) ≡ ifBit21 (a .w) 0 (twoSourceBranch (bitsAt (a .w) 10 6) (a .w)) =
+    at-key (a .w) 0 (tested .before .field .ensures) (λ (k : ℕ). twoSourceBranch k (a .w)) (tested .if1 .taken) (known .before .field2 .ensures) (known .match .keys1) refl in
+    λ bytes tags. rw (← e) (told .subp .ensures (a .settings) bytes tags)
 
--- src/register_words.rt:185:9
 same-length-2 : tie.Need-same-length-2
 same-length-2 c = search needs
 
--- src/register_words.rt:185:9
 returns-2 : tie.Need-returns-2
-returns-2 c = ?
+returns-2 c =
+    let told = c .before .before in
+    let known = told .before .before .before in
+    let tested = known .before .before in
+    let a = tested .before .before .before .args in
+    let e : Is (twoSourceAt Irg (a .w)) ≡ ifBit21 (a .w) 0 (twoSourceBranch (bitsAt (a .w) 10 6) (a .w)) =
+    at-key (a .w) 0 (tested .before .field .ensures) (λ (k : ℕ). twoSourceBranch k (a .w)) (tested .if1 .taken) (known .before .field2 .ensures) (known .match .keys2) refl in
+    λ bytes tags. rw (← e) (told .irg .ensures bytes tags)
 
--- src/register_words.rt:185:9
 same-length-3 : tie.Need-same-length-3
 same-length-3 c = search needs
 
--- src/register_words.rt:185:9
 returns-3 : tie.Need-returns-3
-returns-3 c = ?
+returns-3 c =
+    let told = c .before .before in
+    let known = told .before .before .before in
+    let tested = known .before .before in
+    let a = tested .before .before .before .args in
+    let e : Is (twoSourceAt Gmi (a .w)) ≡ ifBit21 (a .w) 0 (twoSourceBranch (bitsAt (a .w) 10 6) (a .w)) =
+    at-key (a .w) 0 (tested .before .field .ensures) (λ (k : ℕ). twoSourceBranch k (a .w)) (tested .if1 .taken) (known .before .field2 .ensures) (known .match .keys3) refl in
+    λ bytes tags. rw (← e) (told .gmi .ensures (a .settings) bytes tags)
 
--- src/register_words.rt:185:9
 returns-4 : tie.Need-returns-4
-returns-4 c = ?
+unfolding decodedTaken
+returns-4 c =
+    let start = c .before .before .before .before .before in
+    let a = start .args in
+    let e : Undefined ≡ ifBit21 (a .w) 0 (twoSourceBranch (bitsAt (a .w) 10 6) (a .w)) =
+    rw (← (c .before .before .before .field .ensures), ← (c .before .field2 .ensures))
+    (simp (eq-eqb _ _ (c .before .before .if1 .taken), ne-eqb _ _ (c .match .rest .1), ne-eqb _ _ (c .match .rest .0 .1), ne-eqb _ _ (c .match .rest .0 .0 .1))) in
+    λ bytes tags. record { same = rw (← e) refl; packed = start .pre .packed }
 
--- src/register_words.rt:171:1
 returns-5 : tie.Need-returns-5
-returns-5 c = ?
+unfolding decodedTaken
+returns-5 c =
+    let start = c .before .before .before in
+    let a = start .args in
+    let e : Undefined ≡ ifBit21 (a .w) 0 (twoSourceBranch (bitsAt (a .w) 10 6) (a .w)) = other-bit (a .w) 0 (c .before .field .ensures) _ (c .if1 .left) in
+    λ bytes tags. record { same = rw (← e) refl; packed = start .pre .packed }
 
 pub two-source-spec : {M : Type 1} → statement M
 two-source-spec =
