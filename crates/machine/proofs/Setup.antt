@@ -30,3 +30,7 @@ pub setup-state : (m : Machine) (bytes g words : ℕ) → setupOk m bytes g word
 unfolding setupOk
 setup-state m bytes g words h =
     and-eq-true-iff (stateOk (m .settings) (m .registers .status) bytes g) (cursorOk (slotsOf words) (m .cursor)) .0 h .0
+
+pub setup-status : (m : Machine) (bytes g words : ℕ) → setupOk m bytes g words ≡ true
+    → (m .registers .status .nzcv ≤ 15) × (m .registers .status .rgsr ≤ 15)
+setup-status m bytes g words h = state-status (m .settings) (m .registers .status) bytes g (setup-state m bytes g words h)

@@ -5,11 +5,13 @@ use mathlib.Core.List.{List, [], _∷_}
 use mathlib.Core.Logic.{_↔_}
 use mathlib.Core.Path.{_≡_, refl, sym, ap, _∙_, subst}
 use native.Mathlib.Nat.{add-suc, suc-add, add-zero, zero-add}
+use native.Mathlib.Omega.{arith}
+use borrow.Author.Tests.{eqb-false}
 use lib.ListN.{length}
 use Rattle.isa.specs.Decoding.{decodeOf}
 use Rattle.machine.specs.declared.Code.{Code}
 use Rattle.machine.specs.declared.Code.the-variants.{Done, Setup}
-use Rattle.machine.specs.Codes.{isDone, lowest}
+use Rattle.machine.specs.Codes.{codeNumber, isDone, lowest}
 use Rattle.machine.specs.Setup.{sound, cursorOk, setupOk}
 use Rattle.instructions.specs.WordOutcomes.{Outcome, wordOutcome}
 use Rattle.instructions.proofs.WellFormed.{SameShape, word-sound, word-keeps}
@@ -56,6 +58,36 @@ step-kept s s′ w h e =
 
 pub step-keeps : (s s′ : Simulation) (w : ℕ) → wellFormed s ≡ true → stepOf s w ≡ done s′ → wellFormed s′ ≡ true
 step-keeps s s′ w h e = step-kept s s′ w h e .formed
+
+-- no word is refused with DONE
+refusal : (s : Simulation) (w : ℕ) (code : Code) → stepOf s w ≡ refused code → codeNumber code ≡ 0 → ⊥
+unfolding stepOf
+refusal s w code e z = go (isDone (o .code)) refl e
+  where
+    o : Outcome
+    o = wordOutcome (wellFormed s) w (s .state)
+
+    go : (t : Bool) → isDone (o .code) ≡ t
+        → cond {A = Out Simulation} t (done (record { state = o .state; history = pushed (recordOf (decodeOf w) (s .state)) (s .history) })) (refused (o .code)) ≡ refused code → ⊥
+    go true p k = let no : _≡_ {A = ℕ} 0 1 = cc in omega arith
+    go false p k = let q : o .code ≡ code = cc in eqb-false (codeNumber (o .code)) 0 p (ap codeNumber q ∙ z)
+
+-- a word taken, by its code
+module _ (s x : Simulation) (w : ℕ) (code : Code) (k : returned code 0 x ≡ answered s (stepOf s w)) where
+  pub took-done : codeNumber code ≡ 0 → stepOf s w ≡ done x
+  took-done z = go (stepOf s w) refl k
+    where
+      go : (o : Out Simulation) → stepOf s w ≡ o → returned code 0 x ≡ answered s o → o ≡ done x
+      go (done y) p q = ap done (sym (ap (λ (l : Returned Simulation). l .after) q))
+      go (refused c) p q = absurd (refusal s w c p (ap (λ (l : Returned Simulation). codeNumber (l .answer .code)) (sym q) ∙ z))
+
+  pub took-refused : (codeNumber code ≡ 0 → ⊥) → (stepOf s w ≡ refused code) × (x ≡ s)
+  took-refused n = go (stepOf s w) k
+    where
+      go : (o : Out Simulation) → returned code 0 x ≡ answered s o → (o ≡ refused code) × (x ≡ s)
+      go (done y) q = absurd (n (ap (λ (l : Returned Simulation). codeNumber (l .answer .code)) q))
+      go (refused c) q =
+          (ap refused (sym (ap (λ (l : Returned Simulation). l .answer .code) q)), ap (λ (l : Returned Simulation). l .after) q)
 
 -- a machine that is not well formed refuses every word
 pub ill-formed : (s : Simulation) (w : ℕ) → wellFormed s ≡ false → stepOf s w ≡ refused Setup

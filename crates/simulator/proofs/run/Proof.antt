@@ -1,6 +1,7 @@
 -- `simulator::run` meets its contract. Assumes nothing.
 use borrow.Author.Needs.{needs}
 use mathlib.Core.Path.{sym, _∙_}
+use Rattle.machine.proofs.Setup.{setup-status}
 use Rattle.simulator.specs.Simulation.{wellFormed}
 use Rattle.simulator.specs.Steps.{runOf}
 use Rattle.simulator.proofs.run.Statement.{statement}
@@ -9,9 +10,21 @@ use Rattle.simulator.proofs.run.Tie as tie
 setup-ok-requires : tie.Need-setup-ok-requires
 setup-ok-requires c κs = search needs
 
+pack-requires : tie.Need-pack-requires
+pack-requires c κs =
+    let tested = c .before .before .before .before in
+    let a = tested .before .before .before .before .before .before .args in
+    setup-status (a .machine) _ _ _ (sym (tested .before .setup-ok .ensures) ∙ tested .if1 .taken)
+
 take-all-requires : tie.Need-take-all-requires
 unfolding wellFormed
-take-all-requires c κs = let tested = c .before .before .before .before .before .before .before .before in sym (tested .before .setup-ok .ensures) ∙ tested .if1 .taken
+take-all-requires c κs =
+    let packed = c .before .before .before .before in
+    let tested = packed .before .before .before .before .before in
+    (rw (packed .pack .ensures .0) (sym (tested .before .setup-ok .ensures) ∙ tested .if1 .taken), packed .pack .ensures .1)
+
+unpack-requires : tie.Need-unpack-requires
+unpack-requires c κs = search needs
 
 same-length : tie.Need-same-length
 same-length c = search needs
@@ -26,8 +39,10 @@ returns : tie.Need-returns
 unfolding wellFormed runOf
 returns c =
     let ran = c .before .before .before .before .before .before .before .before in
-    let tested = ran .before .before .before .before .before .before .before .before .before in
-    rw (sym (tested .before .setup-ok .ensures) ∙ tested .if1 .taken) (ran .take-all .ensures)
+    let packed = ran .before .before .before .before .before in
+    let tested = packed .before .before .before .before .before in
+    rw (c .unpack .ensures, sym (tested .before .setup-ok .ensures) ∙ tested .if1 .taken)
+    (rw (packed .pack .ensures .0) at (ran .take-all .ensures .same))
 
 returns-2 : tie.Need-returns-2
 unfolding wellFormed runOf
@@ -38,7 +53,9 @@ run-spec =
     tie.close
     (tie.spec
     setup-ok-requires
+    pack-requires
     take-all-requires
+    unpack-requires
     same-length
     same-length-2
     same-length-3
