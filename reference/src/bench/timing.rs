@@ -48,8 +48,8 @@ impl Sides<'_> {
     }
 }
 
-/// A table of nanoseconds for each word or step back: the best time and the
-/// median.
+/// A table of nanoseconds of processor time for each word or step back: the best
+/// and the median.
 pub fn times(simulator: &Path, own: &Path) -> Result<String, String> {
     let sides = Sides { simulator, own };
     let mut lines = vec![
@@ -98,12 +98,14 @@ fn row_times(sides: &Sides, row: &Row) -> Result<[Times; 2], String> {
     let all = workload.rounds * workload.words_and_steps_back();
     let mut nanoseconds = [vec![], vec![]];
     for _ in 0..TIMES {
-        let [mut simulator, mut rust] = sides.commands();
-        let (one, time) = answer(&mut simulator, &input)?;
-        nanoseconds[0].push(time.as_secs_f64() * 1e9 / all as f64);
-        let (other, time) = answer(&mut rust, &input)?;
-        nanoseconds[1].push(time.as_secs_f64() * 1e9 / all as f64);
-        same(row.name, all, &one, &other)?;
+        let mut texts = vec![];
+        for (mut command, nanoseconds) in sides.commands().into_iter().zip(&mut nanoseconds) {
+            let (text, time) = answer(&mut command, &input)?;
+            let time = time.ok_or("processor times cannot be read from /proc")?;
+            nanoseconds.push(time.as_secs_f64() * 1e9 / all as f64);
+            texts.push(text);
+        }
+        same(row.name, all, &texts[0], &texts[1])?;
     }
     Ok(nanoseconds.map(Times::of))
 }
@@ -158,7 +160,8 @@ fn counted(output: &str) -> Result<u64, String> {
     number.ok_or_else(|| format!("valgrind has counted nothing\n{output}"))
 }
 
-fn answer(command: &mut Command, input: &[u8]) -> Result<(String, Duration), String> {
+/// What a program wrote, and its processor time.
+fn answer(command: &mut Command, input: &[u8]) -> Result<(String, Option<Duration>), String> {
     let program = command.get_program().to_string_lossy().into_owned();
     let ended = run(command, input, MOST_OUTPUT, LIMIT)
         .map_err(|error| format!("{program} cannot be run: {error}"))?;
@@ -167,7 +170,7 @@ fn answer(command: &mut Command, input: &[u8]) -> Result<(String, Duration), Str
         Some(status) if !status.success() => Err(format!("{program}: {status}")),
         Some(_) => {
             let text = String::from_utf8_lossy(&ended.output).into_owned();
-            Ok((text, ended.elapsed))
+            Ok((text, ended.processor_time))
         }
     }
 }
