@@ -55,11 +55,11 @@ pub fn times(simulator: &Path, own: &Path) -> Result<String, String> {
     let mut lines = vec![
         format!(
             "{:20} {:>17} {:>17} {:>10}",
-            "ns for each word", "simulator", "Rust loop", "ratio of"
+            "ns for", "simulator", "Rust loop", "ratio of"
         ),
         format!(
             "{:20} {:>8} {:>8} {:>8} {:>8} {:>10}",
-            "or call", "best", "median", "best", "median", "medians"
+            "each word or call", "best", "median", "best", "median", "medians"
         ),
     ];
     for row in rows() {
@@ -113,14 +113,17 @@ fn row_times(sides: &Sides, row: &Row) -> Result<[Times; 2], String> {
 /// A table of instructions for each word or step back, by valgrind.
 pub fn instructions(simulator: &Path, own: &Path) -> Result<String, String> {
     let sides = Sides { simulator, own };
-    let mut lines = vec![format!(
-        "{:24} {:>10} {:>10} {:>8}",
-        "instructions for each", "simulator", "Rust loop", "ratio"
-    )];
+    let mut lines = vec![
+        "instructions for".to_string(),
+        format!(
+            "{:20} {:>10} {:>10} {:>8}",
+            "each word or call", "simulator", "Rust loop", "ratio"
+        ),
+    ];
     for row in rows() {
         let [simulator, rust] = row_instructions(&sides, row.name, row.workload)?;
         lines.push(format!(
-            "{:24} {simulator:>10.1} {rust:>10.1} {:>8.2}",
+            "{:20} {simulator:>10.1} {rust:>10.1} {:>8.2}",
             row.name,
             simulator / rust
         ));
