@@ -6,10 +6,6 @@ use super::workload::{Kind, Start, Workload};
 /// The largest number of slots.
 const SLOTS: u64 = 1024;
 const DISTINCT: usize = 65_536;
-/// Some 30 million words and steps back: a fifth of a second or more.
-const LONG: u64 = 30_000_000;
-/// Where a call costs several times a word.
-const SHORT: u64 = 20_000_000;
 
 pub struct Row {
     pub name: &'static str,
@@ -30,7 +26,8 @@ pub fn start() -> Start {
     }
 }
 
-fn row(name: &'static str, kind: Kind, all: u64, slots: u64, words: Vec<u32>) -> Row {
+/// With so many millions of words and steps back in all.
+fn row(name: &'static str, kind: Kind, millions: u64, slots: u64, words: Vec<u32>) -> Row {
     let steps_back = if kind == Kind::ListOfARun { SLOTS } else { 0 };
     let mut workload = Workload {
         rounds: 0,
@@ -41,29 +38,26 @@ fn row(name: &'static str, kind: Kind, all: u64, slots: u64, words: Vec<u32>) ->
         start: start(),
         words,
     };
-    workload.rounds = all / workload.words_and_steps_back();
+    workload.rounds = millions * 1_000_000 / workload.words_and_steps_back();
     Row { name, workload }
 }
 
+/// Each takes the faster side a tenth of a second or more.
 pub fn rows() -> Vec<Row> {
-    let mix_4096 = || mix(WORDS);
-    let distinct = || mix(DISTINCT);
+    use Kind::*;
+    let (mix, distinct) = (|| mix(WORDS), || mix(DISTINCT));
     vec![
-        row("tight, no slots", Kind::Run, LONG, 0, tight()),
-        row("tight, 1024 slots", Kind::Run, LONG, SLOTS, tight()),
-        row("mix, no slots", Kind::Run, LONG, 0, mix_4096()),
-        row("mix, 1024 slots", Kind::Run, LONG, SLOTS, mix_4096()),
-        row("distinct, no slots", Kind::Run, LONG, 0, distinct()),
-        row("distinct, 1024 slots", Kind::Run, LONG, SLOTS, distinct()),
-        row("back, 1024 slots", Kind::ListOfARun, LONG, SLOTS, tight()),
-        row("step, 1024 slots", Kind::Steps, SHORT, SLOTS, mix_4096()),
-        row(
-            "play, 1024 slots",
-            Kind::ListOfSteps,
-            SHORT,
-            SLOTS,
-            mix_4096(),
-        ),
+        row("tight, no slots", Run, 60, 0, tight()),
+        row("tight, 1024 slots", Run, 40, SLOTS, tight()),
+        row("mix, no slots", Run, 30, 0, mix()),
+        row("mix, 1024 slots", Run, 25, SLOTS, mix()),
+        row("distinct, no slots", Run, 16, 0, distinct()),
+        row("distinct, 1024 slots", Run, 16, SLOTS, distinct()),
+        row("back, 1024 slots", ListOfARun, 40, SLOTS, tight()),
+        row("step tight, 1024 slots", Steps, 16, SLOTS, tight()),
+        row("step mix, 1024 slots", Steps, 16, SLOTS, mix()),
+        row("play tight, 1024 slots", ListOfSteps, 16, SLOTS, tight()),
+        row("play mix, 1024 slots", ListOfSteps, 16, SLOTS, mix()),
     ]
 }
 

@@ -54,18 +54,18 @@ pub fn times(simulator: &Path, own: &Path) -> Result<String, String> {
     let sides = Sides { simulator, own };
     let mut lines = vec![
         format!(
-            "{:20} {:>17} {:>17} {:>10}",
+            "{:22} {:>17} {:>17} {:>10}",
             "ns for", "simulator", "Rust loop", "ratio of"
         ),
         format!(
-            "{:20} {:>8} {:>8} {:>8} {:>8} {:>10}",
+            "{:22} {:>8} {:>8} {:>8} {:>8} {:>10}",
             "each word or call", "best", "median", "best", "median", "medians"
         ),
     ];
     for row in rows() {
         let [simulator, rust] = row_times(&sides, &row)?;
         lines.push(format!(
-            "{:20} {:>8.2} {:>8.2} {:>8.2} {:>8.2} {:>10.2}",
+            "{:22} {:>8.2} {:>8.2} {:>8.2} {:>8.2} {:>10.2}",
             row.name,
             simulator.best,
             simulator.median,
@@ -116,14 +116,14 @@ pub fn instructions(simulator: &Path, own: &Path) -> Result<String, String> {
     let mut lines = vec![
         "instructions for".to_string(),
         format!(
-            "{:20} {:>10} {:>10} {:>8}",
+            "{:22} {:>10} {:>10} {:>8}",
             "each word or call", "simulator", "Rust loop", "ratio"
         ),
     ];
     for row in rows() {
         let [simulator, rust] = row_instructions(&sides, row.name, row.workload)?;
         lines.push(format!(
-            "{:20} {simulator:>10.1} {rust:>10.1} {:>8.2}",
+            "{:22} {simulator:>10.1} {rust:>10.1} {:>8.2}",
             row.name,
             simulator / rust
         ));
