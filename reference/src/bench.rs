@@ -2,11 +2,12 @@
 //! words. Nothing in here has a part in the comparisons.
 
 mod fast;
+mod rows;
 mod timing;
 mod words;
 mod workload;
 
-pub use timing::bench;
+pub use timing::{instructions, times};
 
 /// What is to be written for a workload, as the loop comes to it.
 pub fn answer(workload: &[u8]) -> String {

@@ -5,7 +5,7 @@
 mod library;
 
 use std::env;
-use std::ffi::OsString;
+use std::ffi::{OsStr, OsString};
 use std::fmt::Display;
 use std::io::{self, Read, Write};
 use std::path::Path;
@@ -27,7 +27,7 @@ usage: reference tag-choice | word-code
        reference session PROGRAM [--long] [--seed NUMBER]
        reference play <SCRIPT
        reference answer-session <INPUT
-       reference bench PROGRAM
+       reference bench PROGRAM [--instructions]
        reference bench-loop <WORKLOAD";
 const ALL_WORDS: u64 = 1 << 32;
 /// A comparison repeats the same inputs unless it is told another seed.
@@ -73,7 +73,10 @@ fn compared(arguments: &[OsString]) -> Option<Outcome> {
     match arguments {
         [name] if name == "tag-choice" => Some(tag_choice()),
         [name] if name == "word-code" => Some(word_code()),
-        [name, program] if name == "bench" => Some(time_beside_loop(Path::new(program))),
+        [name, program] if name == "bench" => Some(beside_loop(bench::times, program)),
+        [name, program, option] if name == "bench" && option == "--instructions" => {
+            Some(beside_loop(bench::instructions, program))
+        }
         [name, program, options @ ..] if name == "replay" => {
             let (times, seed) = options_of(options)?;
             Some(replay_scripts(Path::new(program), times, seed))
@@ -152,9 +155,10 @@ fn held_to_minima(summary: impl Display, wanting: Vec<String>) -> Outcome {
     }
 }
 
-fn time_beside_loop(program: &Path) -> Outcome {
+/// A table of a program and the loop, which is a call of this program.
+fn beside_loop(table: fn(&Path, &Path) -> Outcome, program: &OsStr) -> Outcome {
     let own = env::current_exe().map_err(|error| error.to_string())?;
-    bench::bench(program, &own)
+    table(Path::new(program), &own)
 }
 
 fn answer_standard_input(answer: Answer) -> ExitCode {

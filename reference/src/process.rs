@@ -1,5 +1,6 @@
 //! Runs a program on an input, and ends it if it takes too long.
 
+use std::fs;
 use std::io::{self, Read, Write};
 use std::process::{Child, Command, ExitStatus, Stdio};
 use std::sync::mpsc;
@@ -9,12 +10,14 @@ use std::time::{Duration, Instant};
 /// How often it is asked whether a program has ended that writes no more.
 const BETWEEN_ASKING: Duration = Duration::from_micros(100);
 
-/// What a program wrote, how it ended, and the time from its start to its end.
+/// What a program wrote, how it ended, and its processor time.
 pub struct Ended {
     pub output: Vec<u8>,
     /// None if it was killed at the limit.
     pub status: Option<ExitStatus>,
-    pub elapsed: Duration,
+    /// How long it had a processor: other programs bear on that less than on
+    /// the time from start to end. None if Linux does not tell, or it was killed.
+    pub processor_time: Option<Duration>,
 }
 
 pub fn run(
@@ -76,11 +79,14 @@ pub fn run_fed(
         sender.send(read.map(|_| output)).ok();
     });
     let read = receiver.recv_timeout(limit);
+    let processor_time = match &read {
+        Ok(_) => processor_time(child.id(), start + limit),
+        Err(_) => None,
+    };
     let status = match &read {
         Ok(_) => wait(&mut child, start + limit)?,
         Err(_) => None,
     };
-    let elapsed = start.elapsed();
     if status.is_none() {
         child.kill()?;
         child.wait()?;
@@ -89,8 +95,29 @@ pub fn run_fed(
     Ok(Ended {
         output,
         status,
-        elapsed,
+        processor_time,
     })
+}
+
+/// The processor time of a program's first thread. It is told while the program
+/// is there, and is whole once it has ended: so before it is waited for.
+fn processor_time(id: u32, deadline: Instant) -> Option<Duration> {
+    while !has_ended(id)? {
+        if Instant::now() >= deadline {
+            return None;
+        }
+        thread::sleep(BETWEEN_ASKING);
+    }
+    let told = fs::read_to_string(format!("/proc/{id}/schedstat")).ok()?;
+    let nanoseconds = told.split(' ').next()?.parse().ok()?;
+    Some(Duration::from_nanos(nanoseconds))
+}
+
+/// The state stands behind the name, which may itself have parentheses.
+fn has_ended(id: u32) -> Option<bool> {
+    let told = fs::read_to_string(format!("/proc/{id}/stat")).ok()?;
+    let (_, state) = told.rsplit_once(") ")?;
+    Some(state.starts_with('Z'))
 }
 
 /// How a program ended, or nothing if it has not at the deadline.
@@ -122,10 +149,23 @@ mod tests {
     }
 
     #[test]
+    fn a_sleeping_program_has_no_processor() {
+        let ended = run(Command::new("sleep").arg("0.5"), b"", 100, LONG).expect("sleep runs");
+        let idle = ended.processor_time.expect("it ended");
+        assert!(idle < Duration::from_millis(250));
+        let script = "i=0; while [ $i -lt 100000 ]; do i=$((i + 1)); done";
+        let start = Instant::now();
+        let ended = run(Command::new("sh").args(["-c", script]), b"", 100, LONG).expect("sh runs");
+        let busy = ended.processor_time.expect("it ended");
+        assert!(idle < busy && busy <= start.elapsed());
+    }
+
+    #[test]
     fn a_program_that_hangs_is_killed() {
+        let start = Instant::now();
         let ended = run(Command::new("sleep").arg("600"), b"", 100, SHORT).expect("sleep runs");
-        assert!(ended.status.is_none());
-        assert!(ended.elapsed < LONG);
+        assert!(ended.status.is_none() && ended.processor_time.is_none());
+        assert!(start.elapsed() < LONG);
         // It closes its output and hangs then.
         let script = "exec >&-; exec sleep 600";
         let ended = run(Command::new("sh").args(["-c", script]), b"", 100, SHORT);

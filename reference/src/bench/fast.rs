@@ -36,6 +36,15 @@ pub struct Machine {
     pub history: Vec<Slot>,
 }
 
+/// A call of a list.
+#[derive(Clone, Copy, Debug, PartialEq)]
+pub enum Call {
+    Back,
+    Step,
+    /// Of so many words.
+    Run(usize),
+}
+
 const POST: u32 = 1;
 const OFFSET: u32 = 2;
 const PRE: u32 = 3;
@@ -70,7 +79,7 @@ impl Machine {
     #[inline(never)]
     fn run_words<const RECORDS: bool>(&mut self, words: &[u32]) -> (u8, u64) {
         for (done, &word) in words.iter().enumerate() {
-            let code = self.step::<RECORDS>(word);
+            let code = self.take::<RECORDS>(word);
             if code != DONE {
                 return (code, done as u64);
             }
@@ -78,8 +87,61 @@ impl Machine {
         (DONE, words.len() as u64)
     }
 
+    pub fn step(&mut self, word: u32) -> u8 {
+        if !self.well_formed() {
+            return SETUP;
+        }
+        if self.history.is_empty() {
+            self.take::<false>(word)
+        } else {
+            self.take::<true>(word)
+        }
+    }
+
+    /// Makes the calls of a list, which take its words in order, and gives
+    /// each one's code and each run's count; for other calls a count of 0.
+    /// No call breaks the setup, so it is checked once.
+    pub fn play(&mut self, calls: &[Call], words: &[u32], codes: &mut [u8], counts: &mut [u64]) {
+        assert!(codes.len() == calls.len() && counts.len() == calls.len());
+        if !self.well_formed() {
+            codes.fill(SETUP);
+            counts.fill(0);
+        } else if self.history.is_empty() {
+            self.play_calls::<false>(calls, words, codes, counts);
+        } else {
+            self.play_calls::<true>(calls, words, codes, counts);
+        }
+    }
+
+    #[inline(never)]
+    fn play_calls<const RECORDS: bool>(
+        &mut self,
+        calls: &[Call],
+        words: &[u32],
+        codes: &mut [u8],
+        counts: &mut [u64],
+    ) {
+        let mut at = 0;
+        for (call, answer) in calls.iter().zip(codes.iter_mut().zip(counts)) {
+            let (code, count) = match *call {
+                Call::Back => (self.take_back(), 0),
+                Call::Step => {
+                    let word = words[at];
+                    at += 1;
+                    (self.take::<RECORDS>(word), 0)
+                }
+                Call::Run(length) => {
+                    let run = &words[at..][..length];
+                    at += length;
+                    self.run_words::<RECORDS>(run)
+                }
+            };
+            (*answer.0, *answer.1) = (code, count);
+        }
+    }
+
     #[inline(always)]
-    fn step<const RECORDS: bool>(&mut self, word: u32) -> u8 {
+    fn take<const RECORDS: bool>(&mut self, word: u32) -> u8 {
         match word >> 21 {
             0x48C | 0x48D if word & 0xC000 == 0 => self.addg::<RECORDS>(word, amount_6(word)),
             0x68C | 0x68D if word & 0xC000 == 0 => {
@@ -339,10 +401,8 @@ impl Machine {
         DONE
     }
 
-    pub fn step_back(&mut self) -> u8 {
-        if !self.well_formed() {
-            return SETUP;
-        }
+    #[inline(always)]
+    fn take_back(&mut self) -> u8 {
         if self.held == 0 {
             return NOHISTORY;
         }
@@ -580,41 +640,70 @@ mod tests {
         assert_eq!((fast_one.next, fast_one.held), (same.next, same.held));
     }
 
+    /// Steps back, by a list of one call.
+    fn step_back(machine: &mut Machine) -> u8 {
+        let (mut code, mut count) = ([9], [9]);
+        machine.play(&[Call::Back], &[], &mut code, &mut count);
+        assert_eq!(count, [0]);
+        code[0]
+    }
+
+    fn any_word_on(random: &mut Random, recorded: &Recorded) -> u32 {
+        let form = any_form(random);
+        let word = match random.below(6) {
+            0 => Some(refused(random, &recorded.machine)),
+            1 => Some(any_word(random, form) ^ 1 << random.below(32)),
+            2 => Some(any_word(random, form)),
+            _ => accepted(random, &recorded.machine),
+        };
+        word.unwrap_or_else(|| any_word(random, form))
+    }
+
+    /// A call, the words that it takes, and what the machine of the
+    /// comparisons answers.
+    fn any_call(random: &mut Random, recorded: &mut Recorded) -> (Call, Vec<u32>, (u8, u64)) {
+        if random.one_in(4) {
+            return (Call::Back, vec![], (recorded.step_back() as u8, 0));
+        }
+        let word = any_word_on(random, recorded);
+        if random.one_in(2) {
+            return (Call::Step, vec![word], (recorded.step(word) as u8, 0));
+        }
+        let words = vec![word; random.below(4) as usize];
+        let (code, done) = recorded.run(&words);
+        (Call::Run(words.len()), words, (code as u8, done))
+    }
+
     #[test]
     fn the_loop_does_what_the_machine_of_the_comparisons_does() {
         let mut random = Random::new(1);
-        let mut codes = [0; 8];
+        let mut seen = [0; 8];
         for _ in 0..3000 {
             let mut recorded = any_recorded(&mut random);
             let mut machine = fast(&recorded);
+            let mut player = fast(&recorded);
+            let (mut calls, mut list_words, mut answers) = (vec![], vec![], vec![]);
             for _ in 0..20 {
-                let form = any_form(&mut random);
-                let word = match random.below(8) {
-                    0 => refused(&mut random, &recorded.machine),
-                    1 => any_word(&mut random, form) ^ 1 << random.below(32),
-                    2 => any_word(&mut random, form),
-                    3 | 4 => {
-                        let code = recorded.step_back() as u8;
-                        assert_eq!(machine.step_back(), code);
-                        assert_same(&recorded, &machine);
-                        codes[code as usize] += 1;
-                        continue;
-                    }
-                    _ => match accepted(&mut random, &recorded.machine) {
-                        Some(word) => word,
-                        None => continue,
-                    },
+                let (call, words, answer) = any_call(&mut random, &mut recorded);
+                let own = match call {
+                    Call::Back => (step_back(&mut machine), 0),
+                    Call::Step => (machine.step(words[0]), 0),
+                    Call::Run(_) => machine.run(&words),
                 };
-                let words = [word; 2];
-                let words = &words[..1 + random.below(2) as usize];
-                let (code, done) = recorded.run(words);
-                assert_eq!(machine.run(words), (code as u8, done), "{words:x?}");
+                assert_eq!(own, answer, "{call:?} {words:x?}");
                 assert_same(&recorded, &machine);
-                codes[code as usize] += 1;
+                seen[usize::from(answer.0)] += 1;
+                calls.push(call);
+                list_words.extend(words);
+                answers.push(answer);
             }
+            let (mut codes, mut counts) = (vec![9; calls.len()], vec![9; calls.len()]);
+            player.play(&calls, &list_words, &mut codes, &mut counts);
+            assert_eq!(codes.into_iter().zip(counts).collect::<Vec<_>>(), answers);
+            assert_same(&recorded, &player);
         }
-        for (code, count) in codes.iter().enumerate() {
-            assert!(code == usize::from(SETUP) || *count > 200, "{codes:?}");
+        for (code, count) in seen.iter().enumerate() {
+            assert!(code == usize::from(SETUP) || *count > 200, "{seen:?}");
         }
     }
 
@@ -642,7 +731,11 @@ mod tests {
                 }
                 assert_eq!(machine.run(&[]), (SETUP, 0));
                 assert_eq!(machine.run(&[0x9181_0420]), (SETUP, 0));
-                assert_eq!(machine.step_back(), SETUP);
+                assert_eq!(machine.step(0x9181_0420), SETUP);
+                let (mut codes, mut counts) = ([9; 3], [9; 3]);
+                let calls = [Call::Step, Call::Back, Call::Run(0)];
+                machine.play(&calls, &[0x9181_0420], &mut codes, &mut counts);
+                assert_eq!((codes, counts), ([SETUP; 3], [0; 3]));
             }
         }
     }

@@ -1,11 +1,14 @@
 //! The words that are timed.
 
+use std::collections::HashSet;
+
 use crate::code::Code;
 use crate::encoder::encode;
 use crate::generate::random::Random;
 use crate::words::{Form, Instruction, Mode, FORMS};
 
-const WORDS: usize = 4096;
+/// Of the tight words, and of the mix that is not called distinct.
+pub const WORDS: usize = 4096;
 
 fn word(name: &str, values: &[u64]) -> u32 {
     let form = FORMS.iter().find(|form| form.name == name);
@@ -38,12 +41,12 @@ const POINTERS: [u64; 17] = [0, 1, 2, 3, 4, 5, 6, 7, 8, 9, 10, 11, 12, 13, 14, 1
 /// X16 to X30: any result.
 const FIRST_RESULT: u64 = 16;
 
-/// Random words of all forms, about as many of each. Each one is accepted, and
-/// on each round again: where a word goes hangs on bits 55:0 of the pointers,
-/// and these on no tag and no memory.
-pub fn mix() -> Vec<u32> {
+/// Random words of all forms, about as many of each, no two alike. Each one is
+/// accepted, and on each round again: where a word goes hangs on bits 55:0 of
+/// the pointers, and these on no tag and no memory.
+pub fn mix(words: usize) -> Vec<u32> {
     let mut random = Random::new(1);
-    let mut forms: Vec<&Form> = FORMS.iter().cycle().take(WORDS).collect();
+    let mut forms: Vec<&Form> = FORMS.iter().cycle().take(words).collect();
     for place in (1..forms.len()).rev() {
         forms.swap(place, random.below(place as u64 + 1) as usize);
     }
@@ -51,17 +54,33 @@ pub fn mix() -> Vec<u32> {
     for (number, place) in places.iter_mut().enumerate() {
         *place = 0x200 + number as i64;
     }
-    let mut mix = Mix { random, places };
-    forms.into_iter().map(|form| mix.word(form)).collect()
+    let mut mix = Mix {
+        random,
+        places,
+        made: HashSet::new(),
+    };
+    forms.into_iter().map(|form| mix.new_word(form)).collect()
 }
 
 struct Mix {
     random: Random,
     /// The granule that each pointer points to; it and the next one are inside.
     places: [i64; 32],
+    made: HashSet<u32>,
 }
 
 impl Mix {
+    fn new_word(&mut self, form: &Form) -> u32 {
+        let places = self.places;
+        loop {
+            let word = self.word(form);
+            if self.made.insert(word) {
+                return word;
+            }
+            self.places = places;
+        }
+    }
+
     fn word(&mut self, form: &Form) -> u32 {
         use Instruction::*;
         let values = match form.instruction {
@@ -156,12 +175,17 @@ mod tests {
     use crate::words::form_of;
 
     #[test]
-    fn the_mix_has_as_many_of_each_form() {
-        let words = mix();
-        assert_eq!(words.len(), WORDS);
-        for form in &FORMS {
-            let of_form = words.iter().filter(|&&word| form_of(word) == Some(form));
-            assert!((186..=187).contains(&of_form.count()), "{}", form.name);
+    fn the_mix_has_as_many_of_each_form_and_no_two_words_alike() {
+        for count in [WORDS, 65_536] {
+            let words = mix(count);
+            assert_eq!(words.len(), count);
+            assert_eq!(words.iter().collect::<HashSet<_>>().len(), count);
+            let share = count / FORMS.len();
+            for form in &FORMS {
+                let of_form = words.iter().filter(|&&word| form_of(word) == Some(form));
+                let of_form = of_form.count();
+                assert!((share..=share + 1).contains(&of_form), "{}", form.name);
+            }
         }
     }
 

@@ -1,19 +1,17 @@
--- `bench::all_rounds` is safe and ends. Assumes nothing.
+-- `bench::rounds::all_rounds` is safe and ends. Assumes nothing.
 use borrow.Author.Needs.{needs}
 use mathlib.Core.Path.{_≡_}
 use lib.ListN.{length}
-use Rattle.bench.proofs.all_rounds.Statement.{statement}
-use Rattle.bench.proofs.all_rounds.Tie as tie
+use Rattle.bench.proofs.rounds.all_rounds.Statement.{statement}
+use Rattle.bench.proofs.rounds.all_rounds.Tie as tie
 
 abbrev Inv-loop : tie.InvT-loop
-Inv-loop rounds words backs data₀ tags₀ history₀ first machine₀ done₀ left₀ «data» tags history machine done left =
+Inv-loop rounds kind first calls words codes₀ counts₀ data₀ tags₀ history₀ machine₀ done₀ left₀ codes counts «data» tags history machine done left =
     (length «data» ≡ length data₀) × (length tags ≡ length tags₀) × (length history ≡ length history₀)
 
 abbrev μ-loop : tie.MeasureT-loop
-μ-loop rounds words backs data₀ tags₀ history₀ first machine₀ done₀ left₀ «data» tags history machine done left = left
-
-start-requires : tie.Need-start-requires Inv-loop μ-loop
-start-requires c κs = search needs
+μ-loop rounds kind first calls words codes₀ counts₀ data₀ tags₀ history₀ machine₀ done₀ left₀ codes counts «data» tags history machine done left =
+    left
 
 loop-holds : tie.Need-loop-holds Inv-loop μ-loop
 loop-holds c = search needs
@@ -54,7 +52,6 @@ all-rounds-spec =
     (tie.spec
     Inv-loop
     μ-loop
-    start-requires
     loop-holds
     with-cursor-requires
     round-requires
