@@ -21,11 +21,11 @@ textFor (bad number) = badText number
 unfoldable pub answerText : List ℕ → List ℕ
 answerText s = textFor (parsed s)
 
--- a text that may stand behind what was read into a room of 3,733 bytes: if fewer than these were read, they are the text;
--- otherwise the text begins with them
-pub record ReadOf (room : List ℕ) (n : ℕ) (text : List ℕ) : Type 0 where
-  pub whole : n < 3733 → text ≡ take n room
-  pub begun : 3733 ≤ n → take 3733 text ≡ room
+-- an input that may stand behind what was read, of which there is room for 3,733 bytes: if n bytes were read and these are fewer,
+-- they are the input; otherwise the input begins with what the room holds
+pub record ReadOf (room : List ℕ) (n : ℕ) (input : List ℕ) : Type 0 where
+  pub whole : n < 3733 → input ≡ take n room
+  pub begun : 3733 ≤ n → take 3733 input ≡ room
 
 -- the two facts that lending `&out[..n]` asks, so that a caller needs no proof file
 abbrev pub Lendable : ℕ → List ℕ → Type 0

@@ -30,8 +30,8 @@ fn answer_whole(input: &[u8], out: &mut [u8]) -> usize
     }
 }
 
-// Puts what is printed for an input at the start of out, and answers its length. Of the input only the first 3,733 bytes are asked
-// for: read of them stand in room, and a number above 3,733 counts as 3,733.
+// Puts what is printed for an input at the start of out, and answers its length. Of the input, 3,733 bytes are enough: room holds
+// those that were read. A number of them above 3,733 counts as 3,733.
 pub fn answer(room: &[u8; 3733], read: usize, out: &mut [u8; 1134]) -> usize
     ensures { λ r. ⌜ Lendable r (now (out .exit)) ⌝ }
     ensures { λ r. ⌜ ((input : List ℕ) → ReadOf (now (room .entry)) read input → r ≡ length (answerText input)) ⌝ }
