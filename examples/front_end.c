@@ -87,5 +87,13 @@ int main(void)
             return 1;
         }
     }
+    if (ferror(stdin)) {
+        perror("cannot read standard input");
+        return 1;
+    }
+    if (fflush(stdout) != 0 || ferror(stdout)) {
+        perror("cannot write standard output");
+        return 1;
+    }
     return 0;
 }

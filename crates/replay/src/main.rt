@@ -46,7 +46,7 @@ fn write_bad(number: usize, out: &mut [u8])
 {
     let line = Line::of(kinds::BAD, [number as u64, 0, 0, 0, 0]);
     let n = writer::put_line(out, 0, line);
-    io::write_all(1, &out[..n]);
+    writer::write(&out[..n]);
 }
 
 // Plays a script that has no wrong line. Its end is played like a line too, as it ends a list of calls.
@@ -84,7 +84,7 @@ fn play(
         at = line.next;
     }
     let filled = progress.filled;
-    io::write_all(1, &out[..filled]);
+    writer::write(&out[..filled]);
 }
 
 fn replay(
@@ -99,7 +99,7 @@ fn replay(
 )
     requires { ⌜ 128 ≤ length (now out) ⌝ }
 {
-    let n = io::read_full(0, input);
+    let n = input::read(input, b"replay: cannot read standard input");
     if n == input.len() {
         write_bad(0, out);
         return;

@@ -6,8 +6,8 @@ use native.Mathlib.Omega.{arith}
 use lib.ListN.{length, getD, take, List·getD-append}
 use lib.Seq.{drop-at, take-append-add}
 use Rattle.simulator.specs.Steps.{runOf}
-use Rattle.session_text.specs.Inside.{Fits}
-use Rattle.session_text.specs.Kinds.{frontKinds, kindOf}
+use Rattle.session_text.specs.Inside.Buffers.{Fits}
+use Rattle.session_text.specs.LineFormats.{frontFormats, formatOf}
 use Rattle.session_text.specs.Laws.{OnlyGoodIsRead}
 use Rattle.session_text.specs.Parsing.{good, bad, parsed}
 use Rattle.session_text.specs.Printing.{badText}
@@ -32,12 +32,12 @@ module _ (s front words : List ℕ) (n : ℕ) (long : length front ≡ 9) (enoug
   at : (k : ℕ) → k < 9 → getD (front ++ take (n - 9) words) k 0 ≡ getD front k 0
   at k h = List·getD-append front (take (n - 9) words) 0 k (omega arith)
 
-  small : (k : ℕ) → k < 9 → getD front k 0 ≤ kindOf (0 + k) .most
+  small : (k : ℕ) → k < 9 → getD front k 0 ≤ formatOf (0 + k) .most
   unfolding OnlyGoodIsRead
   small k h = rw (at k h) at (only-good-is-read s (front ++ take (n - 9) words) says .0 .range k)
 
   pub fits : Fits front
-  unfolding kindOf frontKinds
+  unfolding formatOf frontFormats
   fits =
       record {
         nine = long;

@@ -13,7 +13,7 @@ use Rattle.text.specs.declared.Line.the-variants.{Is, Wrong}
 use Rattle.text.proofs.ExactLines.{line-exact}
 use Rattle.text.proofs.Framing.{line-says}
 use Rattle.text.proofs.Writing.{length-line}
-use Rattle.session_text.specs.Kinds.{InRange, kindOf, lineFor}
+use Rattle.session_text.specs.LineFormats.{InRange, formatOf, lineFor}
 use Rattle.session_text.specs.Laws.{BadIsFirst, FirstWrong, linesFrom}
 use Rattle.session_text.specs.Parsing.{Parsed, good, bad, before, ended, lineOf, parseLines}
 use Rattle.session_text.proofs.OnlyGoodSessions.{in-range}
@@ -26,7 +26,7 @@ record Stopped (allowed i : ℕ) (s : List ℕ) (at : ℕ) (v : List ℕ) (next 
   text : drop at s ≡ linesFrom i v ++ drop next s
   place : next ≡ at + length (linesFrom i v)
   extra : length v ≡ allowed → next < length s
-  wrong : length v < allowed → lineOf (kindOf (i + length v)) s next ≡ Wrong
+  wrong : length v < allowed → lineOf (formatOf (i + length v)) s next ≡ Wrong
   needed : length v < allowed → leb 9 (i + length v) && ended s next ≡ false
 
 abbrev IfBad : ℕ → ℕ → List ℕ → ℕ → Parsed → Type 0
@@ -38,7 +38,7 @@ module _ (allowed i : ℕ) (s : List ℕ) (at : ℕ) where
   not-bad v number e = let z : _≡_ {A = ℕ} 0 1 = cc in absurd (omega arith)
 
   -- it goes wrong at once
-  stop-here : (allowed ≡ 0 → at < length s) → (0 < allowed → lineOf (kindOf i) s at ≡ Wrong) → (0 < allowed → leb 9 i && ended s at ≡ false)
+  stop-here : (allowed ≡ 0 → at < length s) → (0 < allowed → lineOf (formatOf i) s at ≡ Wrong) → (0 < allowed → leb 9 i && ended s at ≡ false)
       → IfBad allowed i s at (bad (i + 1))
   unfolding linesFrom
   stop-here extra wrong needed number e =
@@ -55,22 +55,22 @@ module _ (allowed i : ℕ) (s : List ℕ) (at : ℕ) where
       } in
       ([], at, stopped, omega arith)
 
-  module _ (x next : ℕ) (line : lineOf (kindOf i) s at ≡ Is x next) where
+  module _ (x next : ℕ) (line : lineOf (formatOf i) s at ≡ Is x next) where
     one-more : (v : List ℕ) (stop : ℕ) → Stopped allowed (i + 1) s next v stop → Stopped (suc allowed) i s at (x ∷ v) stop
     unfolding linesFrom
     one-more v stop rest =
-        let key = kindOf i .key in
-        let digits = kindOf i .digits in
-        let says = line-says key digits (kindOf i .most) s at x next line in
+        let key = formatOf i .key in
+        let digits = formatOf i .digits in
+        let says = line-says key digits (formatOf i .most) s at x next line in
         let later : i + suc (length v) ≡ i + 1 + length v = omega arith in
-        let long : length (lineFor (kindOf i) x ++ linesFrom (i + 1) v) ≡ length key + digits + 1 + length (linesFrom (i + 1) v)
+        let long : length (lineFor (formatOf i) x ++ linesFrom (i + 1) v) ≡ length key + digits + 1 + length (linesFrom (i + 1) v)
         = simp (length-append, length-line) in
         record {
           range = in-range allowed i s at x next line v (rest .range);
           few = omega (arith, rest .few);
-          text = line-exact key digits (kindOf i .most) s at x next line
-              ∙ ap (λ (l : List ℕ). lineFor (kindOf i) x ++ l) (rest .text)
-              ∙ sym (append-assoc (lineFor (kindOf i) x) (linesFrom (i + 1) v) (drop stop s));
+          text = line-exact key digits (formatOf i .most) s at x next line
+              ∙ ap (λ (l : List ℕ). lineFor (formatOf i) x ++ l) (rest .text)
+              ∙ sym (append-assoc (lineFor (formatOf i) x) (linesFrom (i + 1) v) (drop stop s));
           place = omega (arith, rest .place, says .1, long);
           extra = λ h. rest .extra (omega arith);
           wrong = λ h. rw later (rest .wrong (omega arith));
@@ -84,7 +84,7 @@ module _ (allowed i : ℕ) (s : List ℕ) (at : ℕ) where
         (x ∷ r .0, r .1, one-more (r .0) (r .1) (r .2), omega (arith, r .3))
 
 module _ (allowed i : ℕ) (s : List ℕ) (at : ℕ) (rest : (next : ℕ) → IfBad allowed (i + 1) s next (parseLines allowed (i + 1) s next)) where
-  stop-line : leb 9 i && ended s at ≡ false → (l : Line) → lineOf (kindOf i) s at ≡ l → IfBad (suc allowed) i s at (parseLines (suc allowed) i s at)
+  stop-line : leb 9 i && ended s at ≡ false → (l : Line) → lineOf (formatOf i) s at ≡ l → IfBad (suc allowed) i s at (parseLines (suc allowed) i s at)
   stop-line on (Is x next) q =
       rw (one-read allowed i s at on x next q) (stop-behind allowed i s at x next q (parseLines allowed (i + 1) s next) (rest next))
   stop-line on Wrong q =
@@ -92,7 +92,7 @@ module _ (allowed i : ℕ) (s : List ℕ) (at : ℕ) (rest : (next : ℕ) → If
 
   stop-turn : (b : Bool) → leb 9 i && ended s at ≡ b → IfBad (suc allowed) i s at (parseLines (suc allowed) i s at)
   stop-turn true e = rw (all-read allowed i s at e) (not-bad (suc allowed) i s at [])
-  stop-turn false e = stop-line e (lineOf (kindOf i) s at) refl
+  stop-turn false e = stop-line e (lineOf (formatOf i) s at) refl
 
 stop-end : (i : ℕ) (s : List ℕ) (at : ℕ) (b : Bool) → ended s at ≡ b → IfBad 0 i s at (cond b (good []) (bad (i + 1)))
 stop-end i s at true e = not-bad 0 i s at []

@@ -10,15 +10,15 @@ use lib.Dec.{leb}
 use lib.ListN.{length, length-append}
 use Rattle.text.proofs.Round.{line-back}
 use Rattle.text.proofs.Writing.{length-line}
-use Rattle.session_text.specs.Kinds.{InRange, kindOf, lineFor}
+use Rattle.session_text.specs.LineFormats.{InRange, formatOf, lineFor}
 use Rattle.session_text.specs.Laws.{GoodIsRead, linesFrom}
 use Rattle.session_text.specs.Parsing.{good, before, ended, parseLines}
-use Rattle.session_text.proofs.LineKinds.{wide}
+use Rattle.session_text.proofs.LineFormats.{wide}
 use Rattle.session_text.proofs.Parsing.{all-read, at-end, one-read}
 
 module _ (i x : ℕ) (v done : List ℕ) where
   text : List ℕ
-  text = done ++ (lineFor (kindOf i) x ++ linesFrom (i + 1) v)
+  text = done ++ (lineFor (formatOf i) x ++ linesFrom (i + 1) v)
 
   text-on : leb 9 i && ended text (length done) ≡ false
   unfolding text
@@ -27,15 +27,15 @@ module _ (i x : ℕ) (v done : List ℕ) where
       rw (lt-leb (length text) (length done) long) (and-false (leb 9 i))
 
   -- a line that was written is read, and the others behind it
-  line-read : (allowed : ℕ) → x ≤ kindOf i .most
-      → parseLines allowed (i + 1) ((done ++ lineFor (kindOf i) x) ++ linesFrom (i + 1) v) (length (done ++ lineFor (kindOf i) x)) ≡ good v
+  line-read : (allowed : ℕ) → x ≤ formatOf i .most
+      → parseLines allowed (i + 1) ((done ++ lineFor (formatOf i) x) ++ linesFrom (i + 1) v) (length (done ++ lineFor (formatOf i) x)) ≡ good v
       → parseLines (suc allowed) i text (length done) ≡ good (x ∷ v)
   unfolding text
   line-read allowed small rest =
-      let key = kindOf i .key in
-      let digits = kindOf i .digits in
-      let next : length (done ++ lineFor (kindOf i) x) ≡ length done + (length key + digits + 1) = simp (length-append, length-line) in
-      one-read allowed i text (length done) text-on x _ (line-back key digits (kindOf i .most) x done (linesFrom (i + 1) v) (omega (arith, wide i)) small)
+      let key = formatOf i .key in
+      let digits = formatOf i .digits in
+      let next : length (done ++ lineFor (formatOf i) x) ≡ length done + (length key + digits + 1) = simp (length-append, length-line) in
+      one-read allowed i text (length done) text-on x _ (line-back key digits (formatOf i .most) x done (linesFrom (i + 1) v) (omega (arith, wide i)) small)
       ∙ ap (before x) (rw (append-assoc, next) at rest)
 
 read-from : (allowed i : ℕ) (v done : List ℕ) → length v ≤ allowed → 9 ≤ i + length v → InRange i v
@@ -49,7 +49,7 @@ read-from zero i (x ∷ v) done few enough small = absurd (omega arith)
 read-from (suc allowed) i (x ∷ v) done few enough small =
     let next : (j : ℕ) → i + 1 + j ≡ i + suc j = λ j. omega arith in
     line-read i x v done allowed (rw add-zero at (small 0))
-    (read-from allowed (i + 1) v (done ++ lineFor (kindOf i) x) (omega arith) (omega arith) (λ j. rw (next j) (small (suc j))))
+    (read-from allowed (i + 1) v (done ++ lineFor (formatOf i) x) (omega arith) (omega arith) (λ j. rw (next j) (small (suc j))))
 
 pub good-is-read : GoodIsRead
 unfolding GoodIsRead

@@ -2,7 +2,7 @@
 pub mod Answers
 pub mod FirstWrongLines
 pub mod GoodSessions
-pub mod LineKinds
+pub mod LineFormats
 pub mod Lists
 pub mod NothingCut
 pub mod OnlyGoodSessions

@@ -11,7 +11,7 @@ use lib.ListN.{length, drop, drop-of-length-le}
 use Rattle.text.specs.declared.Line.{Line}
 use Rattle.text.specs.declared.Line.the-variants.{Is, Wrong}
 use Rattle.text.proofs.Framing.{line-says}
-use Rattle.session_text.specs.Kinds.{InRange, kindOf, lineFor}
+use Rattle.session_text.specs.LineFormats.{InRange, formatOf, lineFor}
 use Rattle.session_text.specs.Laws.{OnlyGoodIsRead, linesFrom}
 use Rattle.session_text.specs.Parsing.{Parsed, good, bad, before, ended, lineOf, parseLines}
 use Rattle.text.proofs.ExactLines.{line-exact}
@@ -41,9 +41,9 @@ module _ (allowed i : ℕ) (s : List ℕ) (at : ℕ) where
   read-end nine true e = read-none nine (leb-true _ _ e)
   read-end nine false e = read-bad (i + 1)
 
-  module _ (x next : ℕ) (line : lineOf (kindOf i) s at ≡ Is x next) where
-    small : x ≤ kindOf i .most
-    small = line-says (kindOf i .key) (kindOf i .digits) (kindOf i .most) s at x next line .0
+  module _ (x next : ℕ) (line : lineOf (formatOf i) s at ≡ Is x next) where
+    small : x ≤ formatOf i .most
+    small = line-says (formatOf i .key) (formatOf i .digits) (formatOf i .most) s at x next line .0
 
     pub in-range : (v : List ℕ) → InRange (i + 1) v → InRange i (x ∷ v)
     in-range v rest zero = rw add-zero small
@@ -58,7 +58,7 @@ module _ (allowed i : ℕ) (s : List ℕ) (at : ℕ) where
           enough = omega (arith, rest .enough);
           few = omega (arith, rest .few);
           range = in-range v (rest .range);
-          text = line-exact (kindOf i .key) (kindOf i .digits) (kindOf i .most) s at x next line ∙ ap (λ (l : List ℕ). lineFor (kindOf i) x ++ l) (rest .text);
+          text = line-exact (formatOf i .key) (formatOf i .digits) (formatOf i .most) s at x next line ∙ ap (λ (l : List ℕ). lineFor (formatOf i) x ++ l) (rest .text);
         }
 
     read-before : (p : Parsed) → IfRead allowed (i + 1) s next p → IfRead (suc allowed) i s at (before x p)
@@ -66,7 +66,7 @@ module _ (allowed i : ℕ) (s : List ℕ) (at : ℕ) where
     read-before (bad number) rest v e = let z : _≡_ {A = ℕ} 0 1 = cc in absurd (omega arith)
 
 module _ (allowed i : ℕ) (s : List ℕ) (at : ℕ) (rest : (next : ℕ) → IfRead allowed (i + 1) s next (parseLines allowed (i + 1) s next)) where
-  read-line : leb 9 i && ended s at ≡ false → (l : Line) → lineOf (kindOf i) s at ≡ l → IfRead (suc allowed) i s at (parseLines (suc allowed) i s at)
+  read-line : leb 9 i && ended s at ≡ false → (l : Line) → lineOf (formatOf i) s at ≡ l → IfRead (suc allowed) i s at (parseLines (suc allowed) i s at)
   read-line on (Is x next) q =
       rw (one-read allowed i s at on x next q) (read-before allowed i s at x next q (parseLines allowed (i + 1) s next) (rest next))
   read-line on Wrong q = rw (one-wrong allowed i s at on q) (read-bad (suc allowed) i s at (i + 1))
@@ -75,7 +75,7 @@ module _ (allowed i : ℕ) (s : List ℕ) (at : ℕ) (rest : (next : ℕ) → If
   read-turn true e =
       let p = and-eq-true-iff (leb 9 i) (ended s at) .0 e in
       rw (all-read allowed i s at e) (read-none (suc allowed) i s at (leb-true _ _ (p .0)) (leb-true _ _ (p .1)))
-  read-turn false e = read-line e (lineOf (kindOf i) s at) refl
+  read-turn false e = read-line e (lineOf (formatOf i) s at) refl
 
 read-from : (allowed i : ℕ) (s : List ℕ) (at : ℕ) → 9 ≤ i + allowed → IfRead allowed i s at (parseLines allowed i s at)
 unfolding parseLines

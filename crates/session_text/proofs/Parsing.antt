@@ -10,7 +10,7 @@ use lib.Dec.{leb}
 use lib.ListN.{length, set, take}
 use lib.Seq.{take-suc-set}
 use Rattle.text.specs.declared.Line.the-variants.{Is, Wrong}
-use Rattle.session_text.specs.Kinds.{kindOf}
+use Rattle.session_text.specs.LineFormats.{formatOf}
 use Rattle.session_text.specs.Parsing.{Parsed, good, bad, before, ended, lineOf, parseLines, parsed}
 
 -- numbers that were read before those of the others
@@ -33,11 +33,11 @@ module _ (allowed i : ℕ) (s : List ℕ) (at : ℕ) where
   all-read e = rw e
 
   module _ (e : leb 9 i && ended s at ≡ false) where
-    pub one-read : (v next : ℕ) → lineOf (kindOf i) s at ≡ Is v next → parseLines (suc allowed) i s at ≡ before v (parseLines allowed (i + 1) s next)
+    pub one-read : (v next : ℕ) → lineOf (formatOf i) s at ≡ Is v next → parseLines (suc allowed) i s at ≡ before v (parseLines allowed (i + 1) s next)
     unfolding parseLines
     one-read v next q = rw (e, q, parseLines)
 
-    pub one-wrong : lineOf (kindOf i) s at ≡ Wrong → parseLines (suc allowed) i s at ≡ bad (i + 1)
+    pub one-wrong : lineOf (formatOf i) s at ≡ Wrong → parseLines (suc allowed) i s at ≡ bad (i + 1)
     unfolding parseLines
     one-wrong q = rw (e, q, parseLines)
 
@@ -72,14 +72,14 @@ module _ (s : List ℕ) (at i : ℕ) (vs : List ℕ) (h : i < 265) (reached : Re
       ∙ reached
 
   module _ (e : leb 9 i && ended s at ≡ false) where
-    pub reached-next : (v next : ℕ) (ws : List ℕ) → lineOf (kindOf i) s at ≡ Is v next → i < length vs → ws ≡ set vs i v → Reached s next (i + 1) ws
+    pub reached-next : (v next : ℕ) (ws : List ℕ) → lineOf (formatOf i) s at ≡ Is v next → i < length vs → ws ≡ set vs i v → Reached s next (i + 1) ws
     reached-next v next ws q inside stored =
         rw (stored, add-one i, take-suc-set vs i v inside, ← add-one i)
         (sym (behind-one (take i vs) v (parseLines (265 - (i + 1)) (i + 1) s next))
         ∙ ap (behind (take i vs)) (sym (ap (λ (k : ℕ). parseLines k i s at) left ∙ one-read (265 - (i + 1)) i s at e v next q))
         ∙ reached)
 
-    pub reached-wrong : lineOf (kindOf i) s at ≡ Wrong → bad (i + 1) ≡ parsed s
+    pub reached-wrong : lineOf (formatOf i) s at ≡ Wrong → bad (i + 1) ≡ parsed s
     reached-wrong q =
         ap (behind (take i vs)) (sym (ap (λ (k : ℕ). parseLines k i s at) left ∙ one-wrong (265 - (i + 1)) i s at e q)) ∙ reached
 

@@ -1,5 +1,5 @@
 -- An input is judged by as many bytes as the longest good session has, and one more. Assumes nothing.
-use Prim.Native.Nat.{ℕ, zero, suc, _+_, _<_}
+use Prim.Native.Nat.{ℕ, zero, suc, _+_, _≤_, _<_}
 use mathlib.Core.Bool.{Bool, true, false, cond, _&&_}
 use mathlib.Core.List.{List, []}
 use mathlib.Core.Path.{_≡_, refl, sym, ap, _∙_}
@@ -7,19 +7,20 @@ use native.Mathlib.Omega.{arith}
 use borrow.Author.Tests.{le-leb, lt-leb, leb-true, leb-false}
 use lib.Dec.{leb}
 use lib.ListN.{length, take, length-take}
+use lib.Seq.{take-all}
 use Rattle.text.specs.declared.Line.{Line}
 use Rattle.text.specs.declared.Line.the-variants.{Is, Wrong}
 use Rattle.text.proofs.Framing.{line-says}
 use Rattle.text.proofs.Prefix.{line-take}
-use Rattle.session_text.specs.Kinds.{frontKinds, kindOf}
-use Rattle.session_text.specs.Laws.{PrefixDecides}
+use Rattle.session_text.specs.LineFormats.{frontFormats, formatOf}
+use Rattle.session_text.specs.Laws.{PrefixDecides, WhatWasReadIsAnInput}
 use Rattle.session_text.specs.Parsing.{good, bad, before, ended, lineOf, parseLines}
-use Rattle.session_text.specs.Session.{answerText, textFor}
+use Rattle.session_text.specs.Session.{ReadOf, answerText, textFor}
 use Rattle.session_text.proofs.Parsing.{all-read, one-read, one-wrong}
 
 -- the length of the line with index i
 size : ℕ → ℕ
-size i = length (kindOf i .key) + kindOf i .digits + 1
+size i = length (formatOf i .key) + formatOf i .digits + 1
 
 -- the length of so many lines, the first with index i
 span : ℕ → ℕ → ℕ
@@ -39,15 +40,15 @@ module _ (m allowed i : ℕ) (s : List ℕ) (at : ℕ) (h : at + span (suc allow
   same-end : leb 9 i && leb (length (take m s)) at ≡ leb 9 i && ended s at
   same-end = ap (λ (b : Bool). leb 9 i && b) (end-take m s at (omega arith))
 
-  same-line : lineOf (kindOf i) (take m s) at ≡ lineOf (kindOf i) s at
+  same-line : lineOf (formatOf i) (take m s) at ≡ lineOf (formatOf i) s at
   unfolding size span
-  same-line = line-take (kindOf i .key) (kindOf i .digits) (kindOf i .most) s at m (omega arith)
+  same-line = line-take (formatOf i .key) (formatOf i .digits) (formatOf i .most) s at m (omega arith)
 
-  room-left : (v next : ℕ) → lineOf (kindOf i) s at ≡ Is v next → next + span allowed (i + 1) < m
+  room-left : (v next : ℕ) → lineOf (formatOf i) s at ≡ Is v next → next + span allowed (i + 1) < m
   unfolding size span
-  room-left v next q = let p = line-says (kindOf i .key) (kindOf i .digits) (kindOf i .most) s at v next q in omega arith
+  room-left v next q = let p = line-says (formatOf i .key) (formatOf i .digits) (formatOf i .most) s at v next q in omega arith
 
-  front-line : leb 9 i && ended s at ≡ false → (l : Line) → lineOf (kindOf i) s at ≡ l
+  front-line : leb 9 i && ended s at ≡ false → (l : Line) → lineOf (formatOf i) s at ≡ l
       → parseLines (suc allowed) i (take m s) at ≡ parseLines (suc allowed) i s at
   front-line on (Is v next) q =
       one-read allowed i (take m s) at (same-end ∙ on) v next (same-line ∙ q)
@@ -57,7 +58,7 @@ module _ (m allowed i : ℕ) (s : List ℕ) (at : ℕ) (h : at + span (suc allow
 
   front-turn : (b : Bool) → leb 9 i && ended s at ≡ b → parseLines (suc allowed) i (take m s) at ≡ parseLines (suc allowed) i s at
   front-turn true e = all-read allowed i (take m s) at (same-end ∙ e) ∙ sym (all-read allowed i s at e)
-  front-turn false e = front-line e (lineOf (kindOf i) s at) refl
+  front-turn false e = front-line e (lineOf (formatOf i) s at) refl
 
 front-from : (m allowed i : ℕ) (s : List ℕ) (at : ℕ) → at + span allowed i < m → parseLines allowed i (take m s) at ≡ parseLines allowed i s at
 unfolding parseLines span
@@ -66,9 +67,26 @@ front-from m (suc allowed) i s at h =
     front-turn m allowed i s at h (λ next r. front-from m allowed (i + 1) s next r) (leb 9 i && ended s at) refl
 
 longest : span 265 0 ≡ 3732
-unfolding span size kindOf frontKinds
+unfolding span size formatOf frontFormats
 longest = refl
 
 pub prefix-decides : PrefixDecides
 unfolding PrefixDecides answerText
 prefix-decides s = ap textFor (front-from 3733 265 0 s 0 (omega (arith, longest)))
+
+-- what was read of an input is answered as the input
+module _ (room : List ℕ) (n : ℕ) (input : List ℕ) (read : ReadOf room n input) where
+  pub whole-read : n < 3733 → answerText (take n room) ≡ answerText input
+  whole-read h = ap answerText (sym (read .whole h))
+
+  pub front-read : 3733 ≤ n → answerText (take 3733 room) ≡ answerText input
+  unfolding PrefixDecides
+  front-read h = prefix-decides room ∙ ap answerText (sym (read .begun h)) ∙ prefix-decides input
+
+pub what-was-read-is-an-input : WhatWasReadIsAnInput
+unfolding WhatWasReadIsAnInput
+what-was-read-is-an-input room n long =
+    record {
+      whole = λ h. refl;
+      begun = λ h. rw (take-all n room (omega arith)) (take-all 3733 room (omega arith));
+    }

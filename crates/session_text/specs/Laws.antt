@@ -1,5 +1,5 @@
 -- Laws of the definitions (document 01, "The session program"): each is stated here, and proved in proofs/ under its name
--- (prefix-decides, good-is-read, only-good-is-read, bad-is-first, nothing-is-cut).
+-- (prefix-decides, what-was-read-is-an-input, good-is-read, only-good-is-read, bad-is-first, nothing-is-cut).
 use Prim.Native.Nat.{ℕ, _+_, _^_, _≤_, _<_}
 use mathlib.Core.Bool.{false, _&&_}
 use mathlib.Core.List.{List, [], _∷_, _++_}
@@ -10,21 +10,25 @@ use Rattle.text.specs.declared.Line.the-variants.{Wrong}
 use Rattle.machine.specs.Codes.{codeNumber}
 use Rattle.simulator.specs.Calls.{Left}
 use Rattle.simulator.specs.Simulation.{Simulation}
-use Rattle.session_text.specs.Kinds.{InRange, kindOf, lineFor}
+use Rattle.session_text.specs.LineFormats.{InRange, formatOf, lineFor}
 use Rattle.session_text.specs.Parsing.{good, bad, ended, lineOf, parsed}
 use Rattle.session_text.specs.Run.{ranOf}
-use Rattle.session_text.specs.Session.{answerText}
+use Rattle.session_text.specs.Session.{ReadOf, answerText}
 
 -- The longest good session has 3,732 bytes. Of a longer input 3,733 bytes decide what is printed, so the program reads no more.
 unfoldable pub PrefixDecides : Type 0
 PrefixDecides = (s : List ℕ) → answerText (take 3733 s) ≡ answerText s
 
+-- Whatever was read, an input may stand behind it: just what was read.
+unfoldable pub WhatWasReadIsAnInput : Type 0
+WhatWasReadIsAnInput = (room : List ℕ) (n : ℕ) → length room ≡ 3733 → ReadOf room n (take n room)
+
 -- a session as text: a line for each number, the first with index i
 unfoldable pub linesFrom : ℕ → List ℕ → List ℕ
 linesFrom i [] = []
-linesFrom i (v ∷ vs) = lineFor (kindOf i) v ++ linesFrom (i + 1) vs
+linesFrom i (v ∷ vs) = lineFor (formatOf i) v ++ linesFrom (i + 1) vs
 
--- the numbers of a good session: those of the nine lines and up to 256 words, each at most the largest of its kind
+-- the numbers of a good session: those of the nine lines and up to 256 words, each at most the largest of its format
 pub record GoodNumbers (v : List ℕ) : Type 0 where
   pub nine : 9 ≤ length v
   pub most : length v ≤ 265
@@ -38,7 +42,7 @@ GoodIsRead = (v : List ℕ) → GoodNumbers v → parsed (linesFrom 0 v) ≡ goo
 unfoldable pub OnlyGoodIsRead : Type 0
 OnlyGoodIsRead = (s v : List ℕ) → parsed s ≡ good v → GoodNumbers v × (s ≡ linesFrom 0 v)
 
--- Where a session is bad: before the place stand good lines, one for each number of v, and at it one too many, or none of its kind
+-- Where a session is bad: before the place stand good lines, one for each number of v, and at it one too many, or none of its format
 -- though the text may not end there or does not.
 pub record FirstWrong (s v : List ℕ) (at : ℕ) : Type 0 where
   pub range : InRange 0 v
@@ -46,7 +50,7 @@ pub record FirstWrong (s v : List ℕ) (at : ℕ) : Type 0 where
   pub place : at ≡ length (linesFrom 0 v)
   pub text : s ≡ linesFrom 0 v ++ drop at s
   pub extra : length v ≡ 265 → at < length s
-  pub wrong : length v < 265 → lineOf (kindOf (length v)) s at ≡ Wrong
+  pub wrong : length v < 265 → lineOf (formatOf (length v)) s at ≡ Wrong
   pub needed : length v < 265 → leb 9 (length v) && ended s at ≡ false
 
 -- The number that is printed is that of the first wrong, missing, unended or extra line.

@@ -1,5 +1,5 @@
 pub mod Inside
-pub mod Kinds
+pub mod LineFormats
 pub mod Laws
 pub mod Parsing
 pub mod Printing

@@ -7,7 +7,7 @@ use lib.ListN.{length}
 use Rattle.text.specs.Lines.{lineAt}
 use Rattle.text.specs.declared.Line.{Line}
 use Rattle.text.specs.declared.Line.the-variants.{Is, Wrong}
-use Rattle.session_text.specs.Kinds.{Kind, kindOf}
+use Rattle.session_text.specs.LineFormats.{LineFormat, formatOf}
 
 -- the numbers of all lines, or the number from 1 of the first wrong, missing, unended or extra line
 pub data Parsed : Type 0 where
@@ -19,9 +19,9 @@ abbrev pub before : ℕ → Parsed → Parsed
 before v (good vs) = good (v ∷ vs)
 before v (bad number) = bad number
 
--- the line of a kind at a place of the text
-abbrev pub lineOf : Kind → List ℕ → ℕ → Line
-lineOf kind s at = lineAt (kind .key) (kind .digits) (kind .most) s at
+-- the line of a format at a place of the text
+abbrev pub lineOf : LineFormat → List ℕ → ℕ → Line
+lineOf format s at = lineAt (format .key) (format .digits) (format .most) s at
 
 abbrev pub ended : List ℕ → ℕ → Bool
 ended s at = leb (length s) at
@@ -30,10 +30,10 @@ ended s at = leb (length s) at
 unfoldable pub parseLines : ℕ → ℕ → List ℕ → ℕ → Parsed
 -- no line is allowed any more, so one that stands here is extra
 parseLines zero i s at = cond (ended s at) (good []) (bad (i + 1))
--- behind the nine lines the text may end; otherwise a line of its kind has to stand here
+-- behind the nine lines the text may end; otherwise a line of its format has to stand here
 parseLines (suc allowed) i s at =
     cond (leb 9 i && ended s at) (good [])
-    (elim (lineOf (kindOf i) s at) [ Is v next ↦ before v (parseLines allowed (i + 1) s next) | Wrong ↦ bad (i + 1) ])
+    (elim (lineOf (formatOf i) s at) [ Is v next ↦ before v (parseLines allowed (i + 1) s next) | Wrong ↦ bad (i + 1) ])
 
 -- nine lines and up to 256 words
 abbrev pub parsed : List ℕ → Parsed

@@ -7,7 +7,7 @@ use Rattle.text.specs.Lines.{lineText, digitsLine}
 use Rattle.machine.specs.declared.Code.{Code}
 use Rattle.machine.specs.declared.Registers.{Registers}
 use Rattle.machine.specs.Codes.{codeNumber}
-use Rattle.session_text.specs.Kinds.{lineFor, spKind, x0Kind, x1Kind, x2Kind}
+use Rattle.session_text.specs.LineFormats.{lineFor, spFormat, x0Format, x1Format, x2Format}
 
 -- bad=, the number of the first wrong, missing, unended or extra line
 unfoldable pub badText : ℕ → List ℕ
@@ -22,8 +22,8 @@ answerLines count code =
 -- x0=, x1=, x2= and sp=, as they are read
 unfoldable pub registerLines : List ℕ → List ℕ
 registerLines x =
-    lineFor x0Kind (getD x 0 0)
-    ++ (lineFor x1Kind (getD x 1 0) ++ (lineFor x2Kind (getD x 2 0) ++ lineFor spKind (getD x 31 0)))
+    lineFor x0Format (getD x 0 0)
+    ++ (lineFor x1Format (getD x 1 0) ++ (lineFor x2Format (getD x 2 0) ++ lineFor spFormat (getD x 31 0)))
 
 -- those lines, nzcv=, and tags= with a digit for each granule
 unfoldable pub reportText : ℕ → Code → Registers → List ℕ → List ℕ

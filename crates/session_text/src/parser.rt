@@ -5,15 +5,15 @@ ghost use mathlib.Core.Path.{_≡_};
 ghost use Prim.Native.Nat.{_≤_, _<_};
 ghost use lib.Dec.{leb};
 ghost use lib.ListN.{set};
-ghost use Rattle.session_text.specs.Inside.{Counted, Roomy, parsedBy};
-ghost use Rattle.session_text.specs.Kinds.{kindOf};
+ghost use Rattle.session_text.specs.Inside.Buffers.{Counted, Roomy, parsedBy};
+ghost use Rattle.session_text.specs.LineFormats.{formatOf};
 ghost use Rattle.session_text.specs.Parsing.{ended, lineOf, parsed};
 use super::Lines;
 use text::Line;
 
-// The line at at, of the kind of the line with index i.
+// The line at at, of the format of the line with index i.
 fn nth_line(s: &[u8], at: usize, i: usize) -> Line
-    ensures { λ r. ⌜ r ≡ lineOf (kindOf i) (now (s .entry)) at ⌝ }
+    ensures { λ r. ⌜ r ≡ lineOf (formatOf i) (now (s .entry)) at ⌝ }
 {
     match i {
         0 => text::line_at(s, at, b"base=", 16, 0xffff_ffff_ffff_ffff),
@@ -40,7 +40,7 @@ fn ends(s: &[u8], at: usize, i: usize) -> bool
 fn keep(front: &mut [u64], words: &mut [u32], i: usize, value: u64)
     requires { ⌜ Roomy (now front) (now words) ⌝ }
     requires { ⌜ i < 265 ⌝ }
-    requires { ⌜ value ≤ kindOf i .most ⌝ }
+    requires { ⌜ value ≤ formatOf i .most ⌝ }
     ensures { λ _. ⌜ now (front .exit) ++ now (words .exit) ≡ set (now (front .entry) ++ now (words .entry)) i value ⌝ }
 {
     if i < 9 {

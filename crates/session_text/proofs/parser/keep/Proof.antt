@@ -5,7 +5,7 @@ use denote.Ref.{now}
 use mathlib.Core.Path.{sym}
 use native.Mathlib.Omega.{arith}
 use lib.Seq.{set-append-left}
-use Rattle.session_text.proofs.LineKinds.{word-most}
+use Rattle.session_text.proofs.LineFormats.{word-most}
 use Rattle.session_text.proofs.Lists.{set-behind}
 use Rattle.session_text.proofs.parser.keep.Statement.{statement}
 use Rattle.session_text.proofs.parser.keep.Tie as tie

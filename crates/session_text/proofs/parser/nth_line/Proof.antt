@@ -1,12 +1,12 @@
--- `session_text::parser::nth_line` meets its contract: each arm has the kind of its index. Assumes nothing.
+-- `session_text::parser::nth_line` meets its contract: each arm has the format of its index. Assumes nothing.
 use borrow.Author.Needs.{needs}
 use Prim.Native.Nat.{ℕ, _+_, _≤_, zero-le}
 use denote.Ref.{now}
 use mathlib.Core.Path.{_≡_, ap, sym, _∙_}
 use native.Mathlib.Omega.{arith}
-use Rattle.session_text.specs.Kinds.{frontKinds, kindOf}
+use Rattle.session_text.specs.LineFormats.{frontFormats, formatOf}
 use Rattle.session_text.specs.Parsing.{lineOf}
-use Rattle.session_text.proofs.LineKinds.{word-kind}
+use Rattle.session_text.proofs.LineFormats.{word-format}
 use Rattle.session_text.proofs.parser.nth_line.Statement.{statement}
 use Rattle.session_text.proofs.parser.nth_line.Tie as tie
 
@@ -75,39 +75,39 @@ line-at-requires-10 : tie.Need-line-at-requires-10
 line-at-requires-10 c κs = search needs
 
 returns : tie.Need-returns
-unfolding kindOf frontKinds
+unfolding formatOf frontFormats
 returns c = rw (c .before .before .match .keys1) (c .line-at .ensures)
 
 returns-2 : tie.Need-returns-2
-unfolding kindOf frontKinds
+unfolding formatOf frontFormats
 returns-2 c = rw (c .before .before .match .keys2) (c .line-at2 .ensures)
 
 returns-3 : tie.Need-returns-3
-unfolding kindOf frontKinds
+unfolding formatOf frontFormats
 returns-3 c = rw (c .before .before .match .keys3) (c .line-at3 .ensures)
 
 returns-4 : tie.Need-returns-4
-unfolding kindOf frontKinds
+unfolding formatOf frontFormats
 returns-4 c = rw (c .before .before .match .keys4) (c .line-at4 .ensures)
 
 returns-5 : tie.Need-returns-5
-unfolding kindOf frontKinds
+unfolding formatOf frontFormats
 returns-5 c = rw (c .before .before .match .keys5) (c .line-at5 .ensures)
 
 returns-6 : tie.Need-returns-6
-unfolding kindOf frontKinds
+unfolding formatOf frontFormats
 returns-6 c = rw (c .before .before .match .keys6) (c .line-at6 .ensures)
 
 returns-7 : tie.Need-returns-7
-unfolding kindOf frontKinds
+unfolding formatOf frontFormats
 returns-7 c = rw (c .before .before .match .keys7) (c .line-at7 .ensures)
 
 returns-8 : tie.Need-returns-8
-unfolding kindOf frontKinds
+unfolding formatOf frontFormats
 returns-8 c = rw (c .before .before .match .keys8) (c .line-at8 .ensures)
 
 returns-9 : tie.Need-returns-9
-unfolding kindOf frontKinds
+unfolding formatOf frontFormats
 returns-9 c = rw (c .before .before .match .keys9) (c .line-at9 .ensures)
 
 returns-10 : tie.Need-returns-10
@@ -115,7 +115,7 @@ returns-10 c = let a = c .before .before .before .before .args in
     let r = c .before .before .match .rest in
     let five : 5 ≤ a .i = past 4 _ (past 3 _ (past 2 _ (past 1 _ (past 0 _ zero-le (r .0 .0 .0 .0 .0 .0 .0 .0 .1)) (r .0 .0 .0 .0 .0 .0 .0 .1)) (r .0 .0 .0 .0 .0 .0 .1)) (r .0 .0 .0 .0 .0 .1)) (r .0 .0 .0 .0 .1) in
     let nine : 9 ≤ a .i = past 8 _ (past 7 _ (past 6 _ (past 5 _ five (r .0 .0 .0 .1)) (r .0 .0 .1)) (r .0 .1)) (r .1) in
-    c .line-at10 .ensures ∙ ap (λ kind. lineOf kind (now (a .s)) (a .at)) (sym (word-kind (a .i) nine))
+    c .line-at10 .ensures ∙ ap (λ format. lineOf format (now (a .s)) (a .at)) (sym (word-format (a .i) nine))
 
 pub nth-line-spec : {M : Type 1} → statement M
 nth-line-spec =

@@ -10,7 +10,7 @@ use native.Mathlib.Omega.{arith}
 use lib.Dec.{leb}
 use lib.ListN.{length, length-append}
 use Rattle.text.proofs.Framing.{line-says}
-use Rattle.session_text.specs.Inside.{Roomy}
+use Rattle.session_text.specs.Inside.Buffers.{Roomy}
 use Rattle.session_text.specs.Parsing.{ended}
 use Rattle.session_text.proofs.Parsing.{Reached, nine-on, reached-start, reached-all, reached-next, reached-wrong, reached-end, reached-extra}
 use Rattle.session_text.proofs.parser.parse.Statement.{statement}
