@@ -9,7 +9,7 @@ use Rattle.machine.specs.declared.Code.{Code}
 use Rattle.machine.specs.declared.Code.the-variants.{Done, Setup, Undefined, SpAlign, Align, Outside, NoHistory, BadRecord, Field}
 use Rattle.machine.specs.Codes.{codeNumber}
 use Rattle.machine.proofs.Setup.{setup-state, state-status}
-use Rattle.simulator.specs.Calls.{Left, Out, refused, done, inOrder, left, oneMore}
+use Rattle.simulator.specs.Calls.{Returned, Out, refused, done, inOrder, returned, oneMore}
 use Rattle.simulator.specs.Simulation.{Simulation, machineOf, wellFormed}
 use Rattle.simulator.specs.Steps.{runOf, stepOf}
 use Rattle.simulator.proofs.Kept.{step-keeps}
@@ -29,13 +29,13 @@ code-small BadRecord = omega arith
 code-small Field = omega arith
 
 -- a run does no more words than there are, and leaves a well-formed machine well formed
-record Kept (most : ℕ) (ran : Left Simulation) : Type 0 where
+record Kept (most : ℕ) (ran : Returned Simulation) : Type 0 where
   few : ran .answer .count ≤ most
   formed : wellFormed (ran .after) ≡ true
 
 one-kept : (s : Simulation) (w : ℕ) (ws : List ℕ) → wellFormed s ≡ true
     → ((after : Simulation) → wellFormed after ≡ true → Kept (length ws) (inOrder stepOf after ws)) → (o : Out Simulation) → stepOf s w ≡ o
-    → Kept (suc (length ws)) (elim o [ refused code ↦ left code 0 s | done after ↦ oneMore (inOrder stepOf after ws) ])
+    → Kept (suc (length ws)) (elim o [ refused code ↦ returned code 0 s | done after ↦ oneMore (inOrder stepOf after ws) ])
 one-kept s w ws h rest (refused code) e = record { few = zero-le; formed = h }
 one-kept s w ws h rest (done after) e =
     let others = rest after (step-keeps s after w h e) in
@@ -54,7 +54,7 @@ abbrev start : List ℕ → Simulation
 start v = simulationOf (startOf v)
 
 module _ (v : List ℕ) (few : length (wordNumbers v) ≤ 256) where
-  by-setup : (b : Bool) → wellFormed (start v) ≡ b → Printable (cond b (inOrder stepOf (start v) (wordNumbers v)) (left Setup 0 (start v)))
+  by-setup : (b : Bool) → wellFormed (start v) ≡ b → Printable (cond b (inOrder stepOf (start v) (wordNumbers v)) (returned Setup 0 (start v)))
   unfolding simulationOf machineFor
   by-setup true h =
       let ran = run-kept (start v) (wordNumbers v) h in

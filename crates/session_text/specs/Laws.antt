@@ -8,7 +8,7 @@ use lib.Dec.{leb}
 use lib.ListN.{length, take, drop}
 use Rattle.text.specs.declared.Line.the-variants.{Wrong}
 use Rattle.machine.specs.Codes.{codeNumber}
-use Rattle.simulator.specs.Calls.{Left}
+use Rattle.simulator.specs.Calls.{Returned}
 use Rattle.simulator.specs.Simulation.{Simulation}
 use Rattle.session_text.specs.LineFormats.{InRange, formatOf, lineFor}
 use Rattle.session_text.specs.Parsing.{good, bad, ended, lineOf, parsed}
@@ -59,7 +59,7 @@ BadIsFirst =
     (s : List ℕ) (number : ℕ) → parsed s ≡ bad number → (v : List ℕ) × (at : ℕ) × FirstWrong s v at × (number ≡ length v + 1)
 
 -- what is printed of a run fits its digits
-pub record Printable (ran : Left Simulation) : Type 0 where
+pub record Printable (ran : Returned Simulation) : Type 0 where
   pub count : ran .answer .count < 16 ^ 4
   pub code : codeNumber (ran .answer .code) < 16
   pub nzcv : ran .after .state .registers .status .nzcv < 16

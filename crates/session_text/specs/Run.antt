@@ -4,8 +4,8 @@ use mathlib.Core.List.{List, []}
 use lib.Dec.{eqb}
 use lib.ListN.{getD, set, take, drop, replicate}
 use Rattle.machine.specs.declared.Machine.{Machine}
-use Rattle.machine.specs.State.{freshOn}
-use Rattle.simulator.specs.Calls.{Left}
+use Rattle.machine.specs.State.{freshOn, withAccess, withExclude, withSeed}
+use Rattle.simulator.specs.Calls.{Returned}
 use Rattle.simulator.specs.Simulation.{Simulation, simulation}
 use Rattle.simulator.specs.Steps.{runOf}
 
@@ -44,16 +44,11 @@ unfoldable pub machineFor : Start → Machine
 machineFor start =
     let fresh : Machine = freshOn (start .base) in
     record {
-      settings = record { base = fresh .settings .base; exclude = start .exclude; access = eqb (start .access) 1 };
+      settings = withExclude (start .exclude) (withAccess (eqb (start .access) 1) (fresh .settings));
       registers =
           record {
             x = set (set (set (set (fresh .registers .x) 0 (start .x0)) 1 (start .x1)) 2 (start .x2)) 31 (start .sp);
-            status =
-                record {
-                  nzcv = fresh .registers .status .nzcv;
-                  rgsr = fresh .registers .status .rgsr;
-                  seed = start .seed;
-                };
+            status = withSeed (start .seed) (fresh .registers .status);
           };
       cursor = fresh .cursor;
     }
@@ -67,5 +62,5 @@ unfoldable pub simulationOf : Start → Simulation
 simulationOf start = simulationOn start (replicate 16384 0) (replicate 1024 0)
 
 -- the words are run, all in one run
-unfoldable pub ranOf : List ℕ → Left Simulation
+unfoldable pub ranOf : List ℕ → Returned Simulation
 ranOf v = runOf (simulationOf (startOf v)) (wordNumbers v)

@@ -3,14 +3,14 @@ use Prim.Native.Nat.{ℕ, _≤_, _<_}
 use mathlib.Core.List.{List}
 use mathlib.Core.Path.{_≡_}
 use lib.ListN.{length, take}
-use Rattle.simulator.specs.Calls.{Left}
+use Rattle.simulator.specs.Calls.{Returned}
 use Rattle.simulator.specs.Simulation.{Simulation}
 use Rattle.session_text.specs.Parsing.{Parsed, good, bad, parsed}
 use Rattle.session_text.specs.Run.{ranOf}
 use Rattle.session_text.specs.Printing.{badText, reportText}
 
 -- what is printed of a run: its count and code, and the registers and tags after it
-abbrev pub ranText : Left Simulation → List ℕ
+abbrev pub ranText : Returned Simulation → List ℕ
 ranText ran =
     reportText (ran .answer .count) (ran .answer .code) (ran .after .state .registers) (ran .after .state .tags)
 

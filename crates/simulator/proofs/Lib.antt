@@ -1,6 +1,7 @@
 -- Laws of the definitions, for the proofs here and in the crates above.
 pub mod Alike
 pub mod AsPlain
+pub mod CheckOrder
 pub mod Cursors
 pub mod Demand3
 pub mod EveryList
@@ -10,5 +11,6 @@ pub mod RegisterRecords
 pub mod Ring
 pub mod Runs
 pub mod StepsBack
+pub mod Still
 pub mod Taking
 pub mod UndoLog
