@@ -6,8 +6,10 @@ pub mod Demand3
 pub mod EveryList
 pub mod Kept
 pub mod Lists
+pub mod MemoryForms
 pub mod Ring
 pub mod Runs
 pub mod StepsBack
+pub mod StoreRecords
 pub mod Taking
 pub mod UndoLog
