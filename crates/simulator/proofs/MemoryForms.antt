@@ -6,6 +6,7 @@ use mathlib.Core.Path.{_≡_, refl, sym, ap, _∙_}
 use native.Mathlib.Omega.{arith}
 use lib.Dec.{eqb, ltb}
 use lib.ListN.{length}
+use lib.Pow.{mod-pow-add}
 use Rattle.bits.specs.Fields.{bitsAt}
 use Rattle.tag.specs.PointerTags.{tagOf, withTag}
 use Rattle.isa.specs.declared.Mode.{Mode}
@@ -68,7 +69,7 @@ ldg-at zero (suc (suc b)) w k l = absurd (omega (arith, l))
 ldg-at (suc zero) (suc (suc b)) w k l = absurd (omega (arith, l))
 
 top-parts : (u : ℕ) → u % 2 ^ 10 ≡ u % 2 + u / 2 % 2 * 2 + u / 2 ^ 2 % 2 ^ 8 * 2 ^ 2
-top-parts u = omega arith
+top-parts u = omega (arith, mod-pow-add u 8 2, mod-pow-add u 1 1)
 
 -- LDG and the tag stores by bits 23:21 and 11:10
 pub decode-d9 : (w : ℕ) → w < 2 ^ 32 → bitsAt w 24 8 ≡ 0xD9
