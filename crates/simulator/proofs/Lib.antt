@@ -12,5 +12,6 @@ pub mod Ring
 pub mod Runs
 pub mod StepsBack
 pub mod Still
+pub mod StoreRecords
 pub mod Taking
 pub mod UndoLog

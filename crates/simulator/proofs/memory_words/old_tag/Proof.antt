@@ -1,18 +1,14 @@
+-- `simulator::memory_words::old_tag` meets its contract. Assumes nothing.
 use borrow.Author.Needs.{needs}
 use Rattle.simulator.proofs.memory_words.old_tag.Statement.{statement}
 use Rattle.simulator.proofs.memory_words.old_tag.Tie as tie
-use Rattle.simulator.proofs.memory_words.old_tag.Reads as reads
-use Rattle.simulator.proofs.memory_words.old_tag.Lts as lts
 
--- src/memory_words.rt:95:16
 shared-slice-read-result : tie.Need-shared-slice-read-result
-shared-slice-read-result c = ?
+shared-slice-read-result c = c .before .before .pre (c .before .if1 .taken)
 
--- src/memory_words.rt:95:9
 returns : tie.Need-returns
-returns c = ?
+returns c = rw (c .before .if1 .taken)
 
--- src/memory_words.rt:90:1
 returns-2 : tie.Need-returns-2
 returns-2 c = search needs
 

@@ -1,31 +1,33 @@
+-- `simulator::memory_words::old_word` meets its contract. Assumes nothing.
 use borrow.Author.Needs.{needs}
+use Prim.Native.Nat.{_-_}
+use mathlib.Core.Path.{ap, _∙_}
+use native.Mathlib.Omega.{arith}
+use lib.ListN.{length, drop, length-drop}
+use lib.Seq.{take-all}
+use Rattle.bits.specs.LittleEndian.{wordFrom}
 use Rattle.simulator.proofs.memory_words.old_word.Statement.{statement}
 use Rattle.simulator.proofs.memory_words.old_word.Tie as tie
-use Rattle.simulator.proofs.memory_words.old_word.Reads as reads
-use Rattle.simulator.proofs.memory_words.old_word.Lts as lts
-use Rattle.bits.proofs.load_word.Reads as load-word-reads
 
--- src/memory_words.rt:84:32
 sub-load-word : tie.Need-sub-load-word
-sub-load-word c = ?
+sub-load-word c = let h = c .before .before .pre (c .if1 .taken) in omega arith
 
--- src/memory_words.rt:84:32
 part-load-word-start : tie.Need-part-load-word-start
-part-load-word-start c = ?
+part-load-word-start c = let h = c .before .before .pre (c .if1 .taken) in search needs
 
--- src/memory_words.rt:84:32
 part-load-word-end : tie.Need-part-load-word-end
 part-load-word-end c = search needs
 
--- src/memory_words.rt:84:9
 load-word-requires : tie.Need-load-word-requires
-load-word-requires c κs = ?
+load-word-requires c κs = let h = c .before .before .before .pre (c .before .if1 .taken) in search needs
 
--- src/memory_words.rt:84:9
 returns : tie.Need-returns
-returns c = ?
+returns c =
+    let a = c .before .before .before .before .args in
+    let n = length (a .bytes .now) - a .at in
+    let whole = take-all n (drop (a .at) (a .bytes .now)) (rw length-drop (omega arith)) in
+    rw (c .before .before .if1 .taken) (c .load-word .ensures ∙ ap wordFrom whole)
 
--- src/memory_words.rt:79:1
 returns-2 : tie.Need-returns-2
 returns-2 c = search needs
 

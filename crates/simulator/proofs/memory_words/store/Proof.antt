@@ -1,44 +1,53 @@
+-- `simulator::memory_words::store` meets its contract. Assumes nothing.
 use borrow.Author.Needs.{needs}
+use mathlib.Core.Bool.{Bool}
+use mathlib.Core.Path.{ap, _∙_}
+use Rattle.machine.specs.State.{stateOf}
+use Rattle.history.specs.Recording.{entryFor}
+use Rattle.history.specs.Records.{wordsOf}
+use Rattle.history.specs.Ring.{pushed}
+use Rattle.history.specs.Inside.Slots.{historyOf}
+use Rattle.history.specs.Inside.StatusWords.{statusIn}
+use Rattle.simulator.specs.Inside.Taking.{zeroedIf}
+use Rattle.simulator.proofs.StoreRecords.{took-store, zeroed-writes}
 use Rattle.simulator.proofs.memory_words.store.Statement.{statement}
 use Rattle.simulator.proofs.memory_words.store.Tie as tie
-use Rattle.simulator.proofs.memory_words.store.Reads as reads
-use Rattle.simulator.proofs.memory_words.store.Lts as lts
-use Rattle.machine.proofs.register_file.write.Reads as write-reads
-use Rattle.simulator.proofs.memory_words.record_store.Reads as record-store-reads
-use Rattle.simulator.proofs.memory_words.tag_if.Reads as tag-if-reads
-use Rattle.simulator.proofs.memory_words.zero_if.Reads as zero-if-reads
 
--- src/memory_words.rt:203:9
 record-store-requires : tie.Need-record-store-requires
 record-store-requires c κs = search needs
 
--- src/memory_words.rt:215:5
 zero-if-requires : tie.Need-zero-if-requires
 zero-if-requires c κs = search needs
 
--- src/memory_words.rt:216:5
 tag-if-requires : tie.Need-tag-if-requires
 tag-if-requires c κs = search needs
 
--- src/memory_words.rt:217:5
 write-requires : tie.Need-write-requires
 write-requires c κs = search needs
 
--- src/memory_words.rt:177:1
 same-length : tie.Need-same-length
 same-length c = search needs
 
--- src/memory_words.rt:177:1
 same-length-2 : tie.Need-same-length-2
 same-length-2 c = search needs
 
--- src/memory_words.rt:177:1
 same-length-3 : tie.Need-same-length-3
 same-length-3 c = search needs
 
--- src/memory_words.rt:177:1
 returns : tie.Need-returns
-returns c = ?
+returns c =
+    let tagged = c .before .before .before .before in
+    let zeroing = c .before .before .before .before .before .before .before .before in
+    let recorded = c .before .before .before .before .before .before .before .before .before .before .before .before in
+    let start = c .before .before .before .before .before .before .before .before .before .before .before .before .before .before .before .before .before .before .before .before in
+    let a = start .args in
+    let history = recorded .record-store .ensures (a .settings)
+    ∙ ap (λ (saves : Bool). pushed (wordsOf (entryFor (a .register) (a .granules) (a .first) saves
+    (stateOf (a .settings) (a .x .now) (statusIn (a .status)) (a .bytes .now) (a .tags .now)))) (historyOf (a .history .now) (a .cursor)))
+    (zeroed-writes (a .zeroes)) in
+    took-store (a .settings) (a .x .now) (a .status) (a .bytes .now) (a .tags .now) (a .history .now) (a .cursor) (a .register) (a .value)
+    (a .first) (a .granules) (a .tag) (zeroedIf (a .zeroes)) (start .pre .1 .1 .1 .1 .1 .packed) (c .write .ensures) (zeroing .zero-if .ensures)
+    (tagged .tag-if .ensures) history
 
 pub store-spec : {M : Type 1} → statement M
 store-spec =
