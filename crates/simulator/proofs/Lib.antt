@@ -7,6 +7,7 @@ pub mod Demand3
 pub mod EveryList
 pub mod Kept
 pub mod Lists
+pub mod MemoryForms
 pub mod RegisterRecords
 pub mod Ring
 pub mod Runs
