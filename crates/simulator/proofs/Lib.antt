@@ -8,6 +8,7 @@ pub mod Kept
 pub mod Lists
 pub mod Ring
 pub mod Runs
+pub mod Setups
 pub mod StepsBack
 pub mod Taking
 pub mod UndoLog
