@@ -11,6 +11,7 @@ pub mod MemoryForms
 pub mod RegisterRecords
 pub mod Ring
 pub mod Runs
+pub mod Setups
 pub mod StepsBack
 pub mod Still
 pub mod StoreRecords

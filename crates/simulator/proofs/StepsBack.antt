@@ -2,7 +2,7 @@
 use Prim.Native.Nat.{_+_, _*_, _≤_, _<_}
 use mathlib.Core.Bool.{Bool, true, false, cond}
 use mathlib.Core.Logic.{_≢_}
-use mathlib.Core.Path.{_≡_, refl}
+use mathlib.Core.Path.{_≡_, refl, ap}
 use native.Mathlib.Omega.{arith}
 use lib.ListN.{length, take, drop}
 use borrow.Author.Tests.{ne-eqb}
@@ -12,7 +12,7 @@ use Rattle.machine.specs.Codes.{lowest}
 use Rattle.history.specs.BadRecords.{malformed}
 use Rattle.history.specs.History.{capacity}
 use Rattle.history.specs.Ring.{retreated, newest, popped}
-use Rattle.simulator.specs.Calls.{refused, done, whenDone}
+use Rattle.simulator.specs.Calls.{Out, refused, done, whenDone, Returned, returned, answered}
 use Rattle.simulator.specs.Simulation.{Simulation, wellFormed}
 use Rattle.simulator.specs.Steps.{stepBackOf}
 use Rattle.simulator.specs.Inside.Taking.{undoneBy}
@@ -49,3 +49,8 @@ module _ (s : Simulation) where
         go : {X : Type 0} (t : Bool) (after : X) → whenDone (cond t BadRecord Done) after ≡ cond t (refused BadRecord) (done after)
         go true after = refl
         go false after = refl
+
+-- the count of a step or a step back is 0
+pub uncounted : {X : Type 0} (s : X) (o : Out X) (l : Returned X) → l ≡ answered s o → returned (l .answer .code) 0 (l .after) ≡ answered s o
+uncounted {X} s (refused code) l e = ap (λ (k : Returned X). returned (k .answer .code) 0 (k .after)) e
+uncounted {X} s (done after) l e = ap (λ (k : Returned X). returned (k .answer .code) 0 (k .after)) e

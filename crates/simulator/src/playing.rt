@@ -3,9 +3,13 @@ ghost use mathlib.Core.Bool.{cond, true};
 ghost use mathlib.Core.Path.{_≡_};
 ghost use Prim.Native.Nat.{_^_, _<_, _≤_};
 ghost use lib.Dec.{eqb, ltb};
-ghost use lib.ListN.{length};
+ghost use lib.ListN.{length, replicate};
+ghost use lib.Seq.{sets};
+ghost use Rattle.machine.specs.declared.Code.the-variants.{Setup};
+ghost use Rattle.machine.specs.Codes.{codeNumber};
 ghost use Rattle.history.specs.Inside.StatusWords.{IsStatus};
 ghost use Rattle.simulator.specs.Calls.{call};
+ghost use Rattle.simulator.specs.Inside.Playing.{Lent, Wrote};
 ghost use Rattle.simulator.specs.Inside.Taking.{Made, gathered};
 ghost use Rattle.simulator.specs.Playing.{AsPlain, allTaken, callOf, playCode, playNumber, playOf, played, wordsTaken};
 ghost use Rattle.simulator.specs.Simulation.{simulation, wellFormed};
@@ -14,6 +18,7 @@ use super::After;
 use super::undoing;
 use super::words;
 use history::status_words;
+use machine::Code;
 use machine::Cursor;
 use machine::Machine;
 use machine::Registers;
@@ -96,6 +101,13 @@ fn list_code(calls: &[usize], words: usize, codes: usize, counts: usize) -> Play
     PlayCode::Done
 }
 
+// A run of one word for a step: its count is 0, done or not.
+fn count_of(number: usize, count: usize) -> usize
+    ensures { λ r. ⌜ r ≡ cond (eqb number 1) 0 count ⌝ }
+{
+    if number == STEP { 0 } else { count }
+}
+
 // Makes the call of a number, which takes its words from the first on, on a setup that keeps the rules.
 fn make_call(
     x: &mut [u64; 32],
@@ -107,7 +119,15 @@ fn make_call(
     bytes: &mut [u8],
     tags: &mut [u8],
     history: &mut [u64],
-) -> After {
+) -> After
+    requires { ⌜ wellFormed (gathered settings (now x) status (now bytes) (now tags) (now history) cursor) ≡ true ⌝ }
+    requires { ⌜ IsStatus status ⌝ }
+    requires { ⌜ wordsTaken number ≤ length (now words) ⌝ }
+    ensures { λ r.
+        let before = gathered settings (now (x .entry)) status (now (bytes .entry)) (now (tags .entry)) (now (history .entry)) cursor in
+        ⌜ Made r (call simulator before (callOf number (now (words .entry))))
+        (λ status cursor. gathered settings (now (x .exit)) status (now (bytes .exit)) (now (tags .exit)) (now (history .exit)) cursor) ⌝ }
+{
     if number == BACK {
         return undoing::back(x, settings, status, cursor, bytes, tags, &history[..]);
     }
@@ -132,16 +152,13 @@ fn make_call(
     }
 }
 
-fn count_of(number: usize, count: usize) -> usize {
-    if number == STEP { 0 } else { count }
-}
-
+// The status and the cursor after a list.
 struct Ended {
     status: u64,
     cursor: Cursor,
 }
 
-// Plays the calls of a list, on a setup that keeps the rules.
+// Plays the calls of a list, on a setup that keeps the rules. Code and count of the call at i go to place i.
 fn play_all(
     x: &mut [u64; 32],
     settings: Settings,
@@ -154,7 +171,15 @@ fn play_all(
     history: &mut [u64],
     codes: &mut [u32],
     counts: &mut [usize],
-) -> Ended {
+) -> Ended
+    requires { ⌜ wellFormed (gathered settings (now x) status (now bytes) (now tags) (now history) cursor) ≡ true ⌝ }
+    requires { ⌜ IsStatus status ⌝ }
+    requires { ⌜ Lent (now calls) (length (now words)) (length (now codes)) (length (now counts)) ⌝ }
+    ensures { λ r.
+        let before = gathered settings (now (x .entry)) status (now (bytes .entry)) (now (tags .entry)) (now (history .entry)) cursor in
+        let after = gathered settings (now (x .exit)) (r .status) (now (bytes .exit)) (now (tags .exit)) (now (history .exit)) (r .cursor) in
+        ⌜ Wrote before (now (calls .entry)) (now (words .entry)) (now (codes .entry)) (now (counts .entry)) (now (codes .exit)) (now (counts .exit)) after ⌝ }
+{
     let mut reached = status;
     let mut moved = cursor;
     let mut at = 0;
@@ -187,20 +212,23 @@ fn play_all(
     }
 }
 
-// The answers on a setup that breaks a rule.
-fn refuse_all(calls: usize, codes: &mut [u32], counts: &mut [usize]) {
+// The answers to so many calls on a setup that breaks a rule.
+fn refuse_all(calls: usize, codes: &mut [u32], counts: &mut [usize])
+    requires { ⌜ calls ≤ length (now codes) ⌝ }
+    requires { ⌜ calls ≤ length (now counts) ⌝ }
+    ensures { λ _. ⌜ now (codes .exit) ≡ sets (now (codes .entry)) 0 (replicate calls (codeNumber Setup)) ⌝ }
+    ensures { λ _. ⌜ now (counts .exit) ≡ sets (now (counts .entry)) 0 (replicate calls 0) ⌝ }
+{
     let mut i = 0;
     while i < calls {
-        codes[i] = 1;
+        codes[i] = Code::Setup.number();
         counts[i] = 0;
         i += 1;
     }
 }
 
-// Shows of a seed what its type says, which the prover does not read off a struct's field.
-fn seed_is_short(seed: u16) {}
-
-pub fn play(
+// Plays a list that has its words and places. Every call checks the setup, and none changes whether it keeps the rules: so it is checked once.
+fn play_list(
     machine: Machine,
     calls: &[usize],
     words: &[u32],
@@ -209,23 +237,16 @@ pub fn play(
     history: &mut [u64],
     codes: &mut [u32],
     counts: &mut [usize],
-) -> Played {
-    seed_is_short(machine.registers.status.seed);
-    let code = list_code(calls, words.len(), codes.len(), counts.len());
-    if code.number() != 0 {
-        return Played {
-            code: code,
-            count: 0,
-            machine: machine,
-        };
-    }
+) -> Machine
+    requires { ⌜ Lent (now calls) (length (now words)) (length (now codes)) (length (now counts)) ⌝ }
+    ensures { λ r.
+        let before = simulation machine (now (bytes .entry)) (now (tags .entry)) (now (history .entry)) in
+        let after = simulation r (now (bytes .exit)) (now (tags .exit)) (now (history .exit)) in
+        ⌜ Wrote before (now (calls .entry)) (now (words .entry)) (now (codes .entry)) (now (counts .entry)) (now (codes .exit)) (now (counts .exit)) after ⌝ }
+{
     if !machine::setup_ok(machine, bytes.len(), tags.len(), history.len()) {
         refuse_all(calls.len(), codes, counts);
-        return Played {
-            code: code,
-            count: calls.len(),
-            machine: machine,
-        };
+        return machine;
     }
     let settings = machine.settings;
     let status = machine.registers.status;
@@ -246,16 +267,57 @@ pub fn play(
         counts,
     );
     let moved = end.cursor;
+    Machine {
+        settings: settings,
+        registers: Registers {
+            x: x,
+            status: status_words::unpack(end.status),
+        },
+        cursor: moved,
+    }
+}
+
+// Shows of a seed what its type says, which the prover does not read off a struct's field.
+fn seed_is_short(seed: u16)
+    ensures { λ r. ⌜ seed < 2 ^ 16 ⌝ }
+{}
+
+// Plays a list of calls, each with the machine and the buffers as the last one left them. Code and count of the call at i go to place i.
+// A list that lacks places or words is refused whole.
+pub fn play(
+    machine: Machine,
+    calls: &[usize],
+    words: &[u32],
+    bytes: &mut [u8],
+    tags: &mut [u8],
+    history: &mut [u64],
+    codes: &mut [u32],
+    counts: &mut [usize],
+) -> Played
+    ensures { λ r.
+        let before = simulation machine (now (bytes .entry)) (now (tags .entry)) (now (history .entry)) in
+        let after = simulation (r .machine) (now (bytes .exit)) (now (tags .exit)) (now (history .exit)) in
+        ⌜ played (r .code) (r .count) (now (codes .exit)) (now (counts .exit)) after
+        ≡ playOf simulator before (now (calls .entry)) (now (words .entry)) (now (codes .entry)) (now (counts .entry)) ⌝ }
+    ensures { λ r.
+        let before = simulation machine (now (bytes .entry)) (now (tags .entry)) (now (history .entry)) in
+        let after = simulation (r .machine) (now (bytes .exit)) (now (tags .exit)) (now (history .exit)) in
+        ⌜ AsPlain before (now (calls .entry)) (now (words .entry)) (now (codes .entry)) (now (counts .entry))
+        (played (r .code) (r .count) (now (codes .exit)) (now (counts .exit)) after) ⌝ }
+{
+    seed_is_short(machine.registers.status.seed);
+    let code = list_code(calls, words.len(), codes.len(), counts.len());
+    if code.number() != 0 {
+        return Played {
+            code: code,
+            count: 0,
+            machine: machine,
+        };
+    }
+    let after = play_list(machine, calls, words, bytes, tags, history, codes, counts);
     Played {
         code: code,
         count: calls.len(),
-        machine: Machine {
-            settings: settings,
-            registers: Registers {
-                x: x,
-                status: status_words::unpack(end.status),
-            },
-            cursor: moved,
-        },
+        machine: after,
     }
 }

@@ -1,44 +1,53 @@
+-- `simulator::step_back` meets its contract. Assumes nothing.
 use borrow.Author.Needs.{needs}
+use mathlib.Core.Path.{sym, _∙_}
+use Rattle.machine.proofs.Setup.{setup-state, state-status}
+use Rattle.simulator.specs.Simulation.{Simulation, simulation, wellFormed}
+use Rattle.simulator.specs.Steps.{stepBackOf}
+use Rattle.simulator.specs.Inside.Taking.{gathered}
+use Rattle.simulator.proofs.StepsBack.{back-setup, uncounted}
 use Rattle.simulator.proofs.step_back.Statement.{statement}
 use Rattle.simulator.proofs.step_back.Tie as tie
-use Rattle.simulator.proofs.step_back.Reads as reads
-use Rattle.simulator.proofs.step_back.Lts as lts
-use Rattle.history.proofs.status_words.pack.Reads as pack-reads
-use Rattle.history.proofs.status_words.unpack.Reads as unpack-reads
-use Rattle.machine.proofs.setup_ok.Reads as setup-ok-reads
-use Rattle.simulator.proofs.undoing.back.Reads as back-reads
 
--- src/lib.rt:150:8
 setup-ok-requires : tie.Need-setup-ok-requires
 setup-ok-requires c κs = search needs
 
--- src/lib.rt:155:13
 pack-requires : tie.Need-pack-requires
-pack-requires c κs = ?
+pack-requires c κs =
+    let test = c .before .before .before .before in
+    state-status _ _ _ _ (setup-state _ _ _ _ (sym (test .before .setup-ok .ensures) ∙ test .if1 .taken))
 
--- src/lib.rt:156:13
 back-requires : tie.Need-back-requires
-back-requires c κs = ?
+unfolding wellFormed
+back-requires c κs =
+    let packed = c .before .before .before in
+    let test = packed .before .before .before .before .before in
+    (rw (packed .pack .ensures .0) (sym (test .before .setup-ok .ensures) ∙ test .if1 .taken), packed .pack .ensures .1)
 
--- src/lib.rt:165:29
 unpack-requires : tie.Need-unpack-requires
 unpack-requires c κs = search needs
 
--- src/lib.rt:159:9
 same-length : tie.Need-same-length
 same-length c = search needs
 
--- src/lib.rt:159:9
 same-length-2 : tie.Need-same-length-2
 same-length-2 c = search needs
 
--- src/lib.rt:159:9
 returns : tie.Need-returns
-returns c = ?
+returns c =
+    let made = c .before .before .before .before .before .before in
+    let packed = made .before .before .before .before in
+    let a = packed .before .before .before .before .before .before .before .before .before .before .args in
+    let m = a .machine in
+    let s : Simulation = gathered (m .settings) (m .registers .x) (packed .pack .result) (a .bytes .now) (a .tags .now) (a .history .now) (m .cursor) in
+    rw (c .unpack .ensures, ← (packed .pack .ensures .0)) (uncounted s (stepBackOf s) _ (made .back .ensures .same))
 
--- src/lib.rt:144:1
 returns-2 : tie.Need-returns-2
-returns-2 c = ?
+unfolding wellFormed
+returns-2 c =
+    let a = c .before .before .before .before .before .args in
+    let s : Simulation = simulation (a .machine) (a .bytes .now) (a .tags .now) (a .history .now) in
+    rw (back-setup s (sym (c .before .setup-ok .ensures) ∙ c .if1 .left))
 
 pub step-back-spec : {M : Type 1} → statement M
 step-back-spec =

@@ -1,43 +1,15 @@
 -- `simulator::playing::make_call` meets its contract. Assumes nothing.
 use borrow.Author.Needs.{needs}
-use borrow.Author.Tests.{ne-eqb}
 use native.Mathlib.Omega.{arith}
 use lib.ListN.{length-take}
 use Rattle.simulator.specs.Calls.{call}
-use Rattle.simulator.specs.Playing.{callOf, wordsTaken}
+use Rattle.simulator.specs.Playing.{callOf}
+use Rattle.simulator.proofs.Lists.{words-called}
 use Rattle.simulator.proofs.playing.make_call.Statement.{statement}
 use Rattle.simulator.proofs.playing.make_call.Tie as tie
 
-step-back-requires : tie.Need-step-back-requires
-step-back-requires c κs = search needs
-
-uncounted-requires : tie.Need-uncounted-requires
-uncounted-requires c κs = search needs
-
-shared-slice-read-step : tie.Need-shared-slice-read-step
-unfolding wordsTaken
-shared-slice-read-step c =
-    let test = c .before in
-    rw (test .match .keys2) at (test .before .before .before .before .before .pre)
-
-step-requires : tie.Need-step-requires
-step-requires c κs = search needs
-
-uncounted-requires-2 : tie.Need-uncounted-requires-2
-uncounted-requires-2 c κs = search needs
-
-sub-n : tie.Need-sub-n
-sub-n c = search needs
-
-slice-aggregate-run : tie.Need-slice-aggregate-run
-unfolding wordsTaken
-slice-aggregate-run c =
-    let test = c .before in
-    let enough = rw (ne-eqb _ 0 (test .match .rest .0 .1), ne-eqb _ 1 (test .match .rest .1)) at (test .before .before .before .before .before .pre) in
-    simp length-take (omega (arith, enough))
-
-run-requires : tie.Need-run-requires
-run-requires c κs = search needs
+back-requires : tie.Need-back-requires
+back-requires c κs = search needs
 
 same-length : tie.Need-same-length
 same-length c = search needs
@@ -51,10 +23,24 @@ same-length-3 c = search needs
 returns : tie.Need-returns
 unfolding call callOf
 returns c =
-    let stepped = c .before .before .before .before .before in
-    let test = stepped .before .before .before .before in
-    let same = c .uncounted .ensures in
-    rw (test .match .keys1, same .0, same .1, same .2) (stepped .step-back .ensures)
+    let made = c .before .before .before .before in
+    let test = made .before .before .before .before .before in
+    rw (test .if1 .taken) (made .back .ensures)
+
+words-taken-requires : tie.Need-words-taken-requires
+words-taken-requires c κs = search needs
+
+slice-aggregate-take-all : tie.Need-slice-aggregate-take-all
+slice-aggregate-take-all c =
+    let sized = c .before .before in
+    let start = sized .before .before .before .before .before .before in
+    simp length-take (omega (arith, sized .words-taken .ensures, start .pre .1 .1))
+
+take-all-requires : tie.Need-take-all-requires
+take-all-requires c κs = search needs
+
+count-of-requires : tie.Need-count-of-requires
+count-of-requires c κs = search needs
 
 same-length-4 : tie.Need-same-length-4
 same-length-4 c = search needs
@@ -66,50 +52,30 @@ same-length-6 : tie.Need-same-length-6
 same-length-6 c = search needs
 
 returns-2 : tie.Need-returns-2
-unfolding call callOf
 returns-2 c =
-    let stepped = c .before .before .before .before .before .before .before in
-    let test = stepped .before .before .before .before .before in
-    let same = c .uncounted2 .ensures in
-    rw (test .match .keys2, same .0, same .1, same .2) (stepped .step .ensures)
-
-same-length-7 : tie.Need-same-length-7
-same-length-7 c = search needs
-
-same-length-8 : tie.Need-same-length-8
-same-length-8 c = search needs
-
-same-length-9 : tie.Need-same-length-9
-same-length-9 c = search needs
-
-returns-3 : tie.Need-returns-3
-unfolding call callOf
-returns-3 c =
-    let ran = c .before .before .before .before .before .before in
-    let test = ran .before .before .before .before .before in
-    rw (ne-eqb _ 0 (test .match .rest .0 .1), ne-eqb _ 1 (test .match .rest .1)) (ran .run .ensures)
+    let taken = c .before .before .before .before .before .before .before .before in
+    let sized = taken .before .before .before .before .before .before in
+    let start = sized .before .before .before .before .before .before in
+    let same = rw (sized .words-taken .ensures) at (taken .take-all .ensures .same) in
+    record {
+      same = rw (c .count-of .ensures) (words-called _ (start .pre .0) _ (sized .before .if1 .left) _ (start .pre .1 .1) _ same);
+      packed = taken .take-all .ensures .packed;
+    }
 
 pub make-call-spec : {M : Type 1} → statement M
 make-call-spec =
     tie.close
     (tie.spec
-    step-back-requires
-    uncounted-requires
-    shared-slice-read-step
-    step-requires
-    uncounted-requires-2
-    sub-n
-    slice-aggregate-run
-    run-requires
+    back-requires
     same-length
     same-length-2
     same-length-3
     returns
+    words-taken-requires
+    slice-aggregate-take-all
+    take-all-requires
+    count-of-requires
     same-length-4
     same-length-5
     same-length-6
-    returns-2
-    same-length-7
-    same-length-8
-    same-length-9
-    returns-3)
+    returns-2)

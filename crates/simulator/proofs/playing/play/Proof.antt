@@ -1,30 +1,14 @@
--- `simulator::playing::play` meets its contract: both promises. The loop's invariant: playing what is left, behind the answers
--- written so far, gives what the whole list gives. The measure is the calls left. Assumes nothing.
+-- `simulator::playing::play` meets its contract: both promises. Assumes nothing.
 use borrow.Author.Needs.{needs}
-use Prim.Native.Nat.{_-_, _<_}
-use mathlib.Core.Path.{_≡_, refl, sym, _∙_}
-use native.Mathlib.Omega.{arith}
-use lib.ListN.{length, length-set}
-use Rattle.machine.proofs.Parts.{lent-part}
+use mathlib.Core.Path.{sym, _∙_}
 use Rattle.machine.specs.State.{Typed, withMemory}
-use Rattle.simulator.specs.Simulation.{simulation}
 use Rattle.simulator.proofs.AsPlain.{as-plain}
-use Rattle.simulator.proofs.Lists.{Lent, Reached, at-start, at-end, has-words, is-done, not-refused, one-on, taken-on, when-done, when-refused}
+use Rattle.simulator.proofs.Lists.{is-done, not-refused, when-done, when-refused}
 use Rattle.simulator.proofs.playing.play.Statement.{statement}
 use Rattle.simulator.proofs.playing.play.Tie as tie
 
-abbrev Inv-loop : tie.InvT-loop
-Inv-loop list words bytes₀ tags₀ history₀ codes₀ counts₀ code current₀ at₀ i₀ bytes tags history codes counts current at i =
-    (length bytes ≡ length bytes₀) × (length tags ≡ length tags₀) × (length history ≡ length history₀)
-    × (length codes ≡ length codes₀) × (length counts ≡ length counts₀)
-    × Reached list words (simulation current₀ bytes₀ tags₀ history₀) codes₀ counts₀ i at (simulation current bytes tags history) codes counts
-
-abbrev μ-loop : tie.MeasureT-loop
-μ-loop list words bytes₀ tags₀ history₀ codes₀ counts₀ code current₀ at₀ i₀ bytes tags history codes counts current at i =
-    length list - i
-
 -- what the types of the parameters say
-typed : (c : tie.After-seed-is-short Inv-loop μ-loop) → let a = c .before .before .before .before .before .before .before .before .args in Typed (withMemory (a .machine) (a .bytes .now) (a .tags .now))
+typed : (c : tie.After-seed-is-short) → let a = c .before .before .before .before .before .before .before .before .args in Typed (withMemory (a .machine) (a .bytes .now) (a .tags .now))
 typed c =
     record {
       seed = c .seed-is-short .ensures;
@@ -32,161 +16,59 @@ typed c =
       tags = λ i. c .before .before .before .before .slice-known2 .given i .fits;
     }
 
--- the list was not refused
-lent : (c : tie.Else1 Inv-loop μ-loop) → let a = c .before .before .before .before .before .before .before .before .before .before .before .args in Lent (a .calls .now) (length (a .words .now)) (length (a .codes .now)) (length (a .counts .now))
-lent c = not-refused _ _ _ _ (sym (c .before .before .list-code .ensures) ∙ is-done _ (sym (c .before .number .ensures) ∙ c .if1 .left))
-
--- so there is room for the answer of the call at i
-room : (c : tie.In-loop Inv-loop μ-loop) → let here = c .before .loop in (here .i < length (here .codes)) × (here .i < length (here .counts))
-room c =
-    let loop = c .before in
-    let lends = lent (loop .before) in
-    (omega (arith, lends .codes, loop .loop .inv .3, c .loop-test .taken), omega (arith, lends .counts, loop .loop .inv .4, c .loop-test .taken))
-
-seed-is-short-requires : tie.Need-seed-is-short-requires Inv-loop μ-loop
+seed-is-short-requires : tie.Need-seed-is-short-requires
 seed-is-short-requires c κs = search needs
 
-list-code-requires : tie.Need-list-code-requires Inv-loop μ-loop
+list-code-requires : tie.Need-list-code-requires
 list-code-requires c κs = search needs
 
-number-requires : tie.Need-number-requires Inv-loop μ-loop
+number-requires : tie.Need-number-requires
 number-requires c κs = search needs
 
-returns : tie.Need-returns Inv-loop μ-loop
+returns : tie.Need-returns
 returns c =
     let judged = c .before .before in
     let p = when-refused _ _ _ _ _ _ (judged .list-code .ensures) (λ done. c .if1 .taken (c .before .number .ensures ∙ done)) in
     (p, as-plain _ _ _ _ _ _ (typed (judged .before)) p)
 
-loop-holds : tie.Need-loop-holds Inv-loop μ-loop
-loop-holds c = (refl, refl, refl, refl, refl, at-start _ _ _ _ _ (lent c .words))
-
-mul-number : tie.Need-mul-number Inv-loop μ-loop
-mul-number c = search needs
-
-shared-slice-read-number : tie.Need-shared-slice-read-number Inv-loop μ-loop
-shared-slice-read-number c = search needs
-
-mul-make-call : tie.Need-mul-make-call Inv-loop μ-loop
-mul-make-call c = search needs
-
-sub-make-call : tie.Need-sub-make-call Inv-loop μ-loop
-sub-make-call c = search needs
-
-part-make-call-start : tie.Need-part-make-call-start Inv-loop μ-loop
-part-make-call-start c = search needs
-
-part-make-call-end : tie.Need-part-make-call-end Inv-loop μ-loop
-part-make-call-end c = search needs
-
-make-call-requires : tie.Need-make-call-requires Inv-loop μ-loop
-make-call-requires c κs =
+play-list-requires : tie.Need-play-list-requires
+play-list-requires c κs =
     let test = c .before .before .before .before .before in
-    let loop = test .before in
-    rw (lent-part (loop .loop .at) _) (has-words _ _ _ _ _ _ _ _ _ _ (loop .loop .inv .5) (test .loop-test .taken))
+    not-refused _ _ _ _
+    (sym (test .before .before .list-code .ensures) ∙ is-done _ (sym (test .before .number .ensures) ∙ test .if1 .left))
 
-number-requires-2 : tie.Need-number-requires-2 Inv-loop μ-loop
-number-requires-2 c κs = search needs
-
-mul-codes : tie.Need-mul-codes Inv-loop μ-loop
-mul-codes c = omega (arith, mul-number (c .before .before .before .before .before .before .before .before .before .before .before .before .before .before))
-
-slice-write-codes : tie.Need-slice-write-codes Inv-loop μ-loop
-slice-write-codes c = room (c .before .before .before .before .before .before .before .before .before .before .before .before .before .before) .0
-
-mul-counts : tie.Need-mul-counts Inv-loop μ-loop
-mul-counts c = omega (arith, mul-number (c .before .before .before .before .before .before .before .before .before .before .before .before .before .before))
-
-slice-write-counts : tie.Need-slice-write-counts Inv-loop μ-loop
-slice-write-counts c = room (c .before .before .before .before .before .before .before .before .before .before .before .before .before .before) .1
-
-words-taken-requires : tie.Need-words-taken-requires Inv-loop μ-loop
-words-taken-requires c κs = search needs
-
-add-at : tie.Need-add-at Inv-loop μ-loop
-add-at c =
-    let test = c .before .before .before .before .before .before .before .before .before .before .before .before .before .before .before in
-    let loop = test .before in
-    let start = loop .before .before .before .before .before .before .before .before .before .before .before .before in
-    let here = taken-on (start .args .calls .now) (loop .loop .i) (test .loop-test .taken) in
-    omega (arith, c .words-taken .ensures, start .good, loop .loop .inv .5 .enough, here)
-
-add-i : tie.Need-add-i Inv-loop μ-loop
-add-i c = omega (arith, mul-number (c .before .before .before .before .before .before .before .before .before .before .before .before .before .before .before))
-
-loop-less : tie.Need-loop-less Inv-loop μ-loop
-loop-less c = search needs
-
-loop-again : tie.Need-loop-again Inv-loop μ-loop
-loop-again c =
-    let made = c .before .before .before .before .before .before .before .before .before in
-    let test = made .before .before .before .before .before .before in
-    let loop = test .before in
-    let inv = loop .loop .inv in
-    let kept = made .make-call .kept in
-    let call = rw (lent-part (loop .loop .at) _) at (made .make-call .ensures) in
-    let on = one-on _ _ _ _ _ _ _ _ _ _ (inv .5) (test .loop-test .taken) _ call in (
-      kept .1 .1 .1 .0 ∙ inv .0,
-      kept .1 .1 .1 .1 .0 ∙ inv .1,
-      kept .1 .1 .1 .1 .1 .0 ∙ inv .2,
-      simp length-set (inv .3),
-      simp length-set (inv .4),
-      rw (c .words-taken .ensures, c .before .number2 .ensures) on,
-    )
-
-same-length : tie.Need-same-length Inv-loop μ-loop
+same-length : tie.Need-same-length
 same-length c = search needs
 
-same-length-2 : tie.Need-same-length-2 Inv-loop μ-loop
+same-length-2 : tie.Need-same-length-2
 same-length-2 c = search needs
 
-same-length-3 : tie.Need-same-length-3 Inv-loop μ-loop
+same-length-3 : tie.Need-same-length-3
 same-length-3 c = search needs
 
-same-length-4 : tie.Need-same-length-4 Inv-loop μ-loop
+same-length-4 : tie.Need-same-length-4
 same-length-4 c = search needs
 
-same-length-5 : tie.Need-same-length-5 Inv-loop μ-loop
+same-length-5 : tie.Need-same-length-5
 same-length-5 c = search needs
 
-returns-2 : tie.Need-returns-2 Inv-loop μ-loop
+returns-2 : tie.Need-returns-2
 returns-2 c =
-    let loop = c .before in
-    let inv = loop .loop .inv in
-    let test = loop .before in
+    let ended = c .before .before .before .before .before .before .before .before .before .before in
+    let test = ended .before .before .before .before .before .before in
     let judged = test .before .before in
-    let ended = at-end _ _ _ _ _ _ _ _ _ _ (inv .5) (c .loop-test .left) in
-    let p = when-done _ _ _ _ _ _ (judged .list-code .ensures) (sym (test .before .number .ensures) ∙ test .if1 .left) _ ended in
+    let p = when-done _ _ _ _ _ _ (judged .list-code .ensures) (sym (test .before .number .ensures) ∙ test .if1 .left) _ _ _ (ended .play-list .ensures) in
     (p, as-plain _ _ _ _ _ _ (typed (judged .before)) p)
 
 pub play-spec : {M : Type 1} → statement M
 play-spec =
     tie.close
     (tie.spec
-    Inv-loop
-    μ-loop
     seed-is-short-requires
     list-code-requires
     number-requires
     returns
-    loop-holds
-    mul-number
-    shared-slice-read-number
-    mul-make-call
-    sub-make-call
-    part-make-call-start
-    part-make-call-end
-    make-call-requires
-    number-requires-2
-    mul-codes
-    slice-write-codes
-    mul-counts
-    slice-write-counts
-    words-taken-requires
-    add-at
-    add-i
-    loop-less
-    loop-again
+    play-list-requires
     same-length
     same-length-2
     same-length-3

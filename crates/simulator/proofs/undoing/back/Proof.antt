@@ -1,34 +1,47 @@
+-- `simulator::undoing::back` meets its contract. Assumes nothing.
 use borrow.Author.Needs.{needs}
+use Rattle.simulator.specs.Simulation.{Simulation}
+use Rattle.simulator.specs.Inside.Taking.{gathered}
+use Rattle.simulator.proofs.StepsBack.{back-none, back-cursor, back-slot, back-undone}
+use Rattle.simulator.proofs.Taking.{sizes}
 use Rattle.simulator.proofs.undoing.back.Statement.{statement}
 use Rattle.simulator.proofs.undoing.back.Tie as tie
-use Rattle.simulator.proofs.undoing.back.Reads as reads
-use Rattle.simulator.proofs.undoing.back.Lts as lts
-use Rattle.history.proofs.retreat.Reads as retreat-reads
-use Rattle.simulator.proofs.undoing.undo_at.Reads as undo-at-reads
 
--- src/undoing.rt:72:9
 returns : tie.Need-returns
-returns c = ?
+returns c =
+    let start = c .before .before .before .before .before in
+    record { same = rw (back-none _ (start .pre .0) (c .if1 .taken)); packed = start .pre .1 }
 
--- src/undoing.rt:79:9
 retreat-requires : tie.Need-retreat-requires
-retreat-requires c κs = ?
+retreat-requires c κs =
+    let start = c .before .before .before .before .before in
+    back-cursor _ (start .pre .0) (c .if1 .left)
 
--- src/undoing.rt:80:5
 undo-at-requires : tie.Need-undo-at-requires
-undo-at-requires c κs = ?
+undo-at-requires c κs =
+    let moved = c .before .before .before in
+    let start = moved .before .before .before .before .before .before in
+    let h = start .pre .0 in
+    (rw (moved .retreat .ensures) (back-slot _ h (moved .before .if1 .left)), (sizes _ h .1, start .pre .1))
 
--- src/undoing.rt:55:1
 same-length : tie.Need-same-length
 same-length c = search needs
 
--- src/undoing.rt:55:1
 same-length-2 : tie.Need-same-length-2
 same-length-2 c = search needs
 
--- src/undoing.rt:55:1
 returns-2 : tie.Need-returns-2
-returns-2 c = ?
+returns-2 c =
+    let undone = c .before .before .before .before in
+    let moved = undone .before .before .before .before in
+    let start = moved .before .before .before .before .before .before in
+    let a = start .args in
+    let s : Simulation = gathered (a .settings) (a .x .now) (a .status) (a .bytes .now) (a .tags .now) (a .history .now) (a .cursor) in
+    let made = undone .undo-at .ensures (a .settings) in
+    record {
+      same = rw (back-undone s (start .pre .0) (moved .before .if1 .left), ← (moved .retreat .ensures)) (made .same);
+      packed = made .packed;
+    }
 
 pub back-spec : {M : Type 1} → statement M
 back-spec =
