@@ -1,5 +1,5 @@
 -- The record of a word that changes no memory. Assumes nothing.
-use Prim.Native.Nat.{ℕ, _+_, _^_, _<_}
+use Prim.Native.Nat.{ℕ, _+_}
 use mathlib.Core.Bool.{false}
 use mathlib.Core.List.{List, [], _∷_}
 use mathlib.Core.Path.{_≡_}
@@ -13,10 +13,6 @@ use Rattle.history.specs.Inside.Slots.{slotWords}
 use Rattle.history.specs.Inside.StatusWords.{IsStatus, statusIn}
 
 module _ (n status : ℕ) (packed : IsStatus status) where
-  -- the status fits above the register's number
-  pub status-small : status < 2 ^ 56
-  status-small = omega (arith, packed)
-
   pub register-record : (settings : Settings) (x bytes tags : List ℕ)
       → slotWords (n + status) (xOrSp x n) 0 0 0 0 0 ≡ wordsOf (entryFor n 0 0 false (stateOf settings x (statusIn status) bytes tags))
   unfolding wordsOf entryFor

@@ -3,6 +3,7 @@
 // the status goes as a number, as a record has it.
 ghost use mathlib.Core.Path.{_≡_};
 ghost use Rattle.simulator.specs.Calls.{answered, returned};
+ghost use Rattle.simulator.specs.Inside.Taking.{machineWith};
 ghost use Rattle.simulator.specs.Simulation.{simulation};
 ghost use Rattle.simulator.specs.Steps.{runOf, stepBackOf, stepOf};
 use history::status_words;
@@ -10,6 +11,7 @@ use machine::Code;
 use machine::Cursor;
 use machine::Machine;
 use machine::Registers;
+use machine::Settings;
 pub use playing::BACK;
 pub use playing::PlayCode;
 pub use playing::Played;
@@ -66,6 +68,20 @@ pub(crate) struct After {
     cursor: Cursor,
 }
 
+// Puts a machine together from its parts.
+pub(crate) fn machine_of(settings: Settings, x: [u64; 32], status: u64, cursor: Cursor) -> Machine
+    ensures { λ r. ⌜ r ≡ machineWith settings x status cursor ⌝ }
+{
+    Machine {
+        settings: settings,
+        registers: Registers {
+            x: x,
+            status: status_words::unpack(status),
+        },
+        cursor: cursor,
+    }
+}
+
 // Takes lent words in order up to the first refused one.
 pub fn run(
     machine: Machine,
@@ -100,14 +116,7 @@ pub fn run(
         return Ran {
             code: code,
             count: end.count,
-            machine: Machine {
-                settings: settings,
-                registers: Registers {
-                    x: x,
-                    status: status_words::unpack(end.status),
-                },
-                cursor: moved,
-            },
+            machine: machine_of(settings, x, end.status, moved),
         };
     }
     Ran {
@@ -158,14 +167,7 @@ pub fn step_back(machine: Machine, bytes: &mut [u8], tags: &mut [u8], history: &
         let moved = end.cursor;
         return Stepped {
             code: code,
-            machine: Machine {
-                settings: settings,
-                registers: Registers {
-                    x: x,
-                    status: status_words::unpack(end.status),
-                },
-                cursor: moved,
-            },
+            machine: machine_of(settings, x, end.status, moved),
         };
     }
     Stepped {

@@ -15,13 +15,13 @@ ghost use Rattle.simulator.specs.Playing.{AsPlain, allTaken, callOf, pla
 ghost use Rattle.simulator.specs.Simulation.{simulation, wellFormed};
 ghost use Rattle.simulator.specs.Steps.{simulator};
 use super::After;
+use super::machine_of;
 use super::undoing;
 use super::words;
 use history::status_words;
 use machine::Code;
 use machine::Cursor;
 use machine::Machine;
-use machine::Registers;
 use machine::Settings;
 
 // The numbers of the calls: a step back, a step, and RUN + n for a run of n words.
@@ -267,14 +267,7 @@ fn play_list(
         counts,
     );
     let moved = end.cursor;
-    Machine {
-        settings: settings,
-        registers: Registers {
-            x: x,
-            status: status_words::unpack(end.status),
-        },
-        cursor: moved,
-    }
+    machine_of(settings, x, end.status, moved)
 }
 
 // Shows of a seed what its type says, which the prover does not read off a struct's field.

@@ -23,8 +23,8 @@ take-all-requires c κs =
     let tested = packed .before .before .before .before .before in
     (rw (packed .pack .ensures .0) (sym (tested .before .setup-ok .ensures) ∙ tested .if1 .taken), packed .pack .ensures .1)
 
-unpack-requires : tie.Need-unpack-requires
-unpack-requires c κs = search needs
+machine-of-requires : tie.Need-machine-of-requires
+machine-of-requires c κs = search needs
 
 same-length : tie.Need-same-length
 same-length c = search needs
@@ -41,7 +41,7 @@ returns c =
     let ran = c .before .before .before .before .before .before .before .before in
     let packed = ran .before .before .before .before .before in
     let tested = packed .before .before .before .before .before in
-    rw (c .unpack .ensures, sym (tested .before .setup-ok .ensures) ∙ tested .if1 .taken)
+    rw (c .machine-of .ensures, sym (tested .before .setup-ok .ensures) ∙ tested .if1 .taken)
     (rw (packed .pack .ensures .0) at (ran .take-all .ensures .same))
 
 returns-2 : tie.Need-returns-2
@@ -55,7 +55,7 @@ run-spec =
     setup-ok-requires
     pack-requires
     take-all-requires
-    unpack-requires
+    machine-of-requires
     same-length
     same-length-2
     same-length-3

@@ -1,7 +1,7 @@
 -- `simulator::step_back` meets its contract. Assumes nothing.
 use borrow.Author.Needs.{needs}
 use mathlib.Core.Path.{sym, _∙_}
-use Rattle.machine.proofs.Setup.{setup-state, state-status}
+use Rattle.machine.proofs.Setup.{setup-status}
 use Rattle.simulator.specs.Simulation.{Simulation, simulation, wellFormed}
 use Rattle.simulator.specs.Steps.{stepBackOf}
 use Rattle.simulator.specs.Inside.Taking.{gathered}
@@ -15,7 +15,7 @@ setup-ok-requires c κs = search needs
 pack-requires : tie.Need-pack-requires
 pack-requires c κs =
     let test = c .before .before .before .before in
-    state-status _ _ _ _ (setup-state _ _ _ _ (sym (test .before .setup-ok .ensures) ∙ test .if1 .taken))
+    setup-status _ _ _ _ (sym (test .before .setup-ok .ensures) ∙ test .if1 .taken)
 
 back-requires : tie.Need-back-requires
 unfolding wellFormed
@@ -24,8 +24,8 @@ back-requires c κs =
     let test = packed .before .before .before .before .before in
     (rw (packed .pack .ensures .0) (sym (test .before .setup-ok .ensures) ∙ test .if1 .taken), packed .pack .ensures .1)
 
-unpack-requires : tie.Need-unpack-requires
-unpack-requires c κs = search needs
+machine-of-requires : tie.Need-machine-of-requires
+machine-of-requires c κs = search needs
 
 same-length : tie.Need-same-length
 same-length c = search needs
@@ -40,7 +40,7 @@ returns c =
     let a = packed .before .before .before .before .before .before .before .before .before .before .args in
     let m = a .machine in
     let s : Simulation = gathered (m .settings) (m .registers .x) (packed .pack .result) (a .bytes .now) (a .tags .now) (a .history .now) (m .cursor) in
-    rw (c .unpack .ensures, ← (packed .pack .ensures .0)) (uncounted s (stepBackOf s) _ (made .back .ensures .same))
+    rw (c .machine-of .ensures, ← (packed .pack .ensures .0)) (uncounted s (stepBackOf s) _ (made .back .ensures .same))
 
 returns-2 : tie.Need-returns-2
 unfolding wellFormed
@@ -56,7 +56,7 @@ step-back-spec =
     setup-ok-requires
     pack-requires
     back-requires
-    unpack-requires
+    machine-of-requires
     same-length
     same-length-2
     returns

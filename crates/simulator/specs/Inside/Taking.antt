@@ -14,6 +14,7 @@ use Rattle.isa.specs.declared.Decoded.the-variants.{Is}
 use Rattle.isa.specs.declared.Decoded.the-variants.{Undefined as NoForm}
 use Rattle.machine.specs.declared.Code.the-variants.{Undefined, BadRecord}
 use Rattle.machine.specs.declared.Cursor.{Cursor}
+use Rattle.machine.specs.declared.Machine.{Machine}
 use Rattle.machine.specs.declared.Settings.{Settings}
 use Rattle.machine.specs.Setup.{slotsOf}
 use Rattle.machine.specs.State.{stateOf}
@@ -35,6 +36,10 @@ use Rattle.simulator.specs.Simulation.{Simulation}
 abbrev pub gathered : Settings → List ℕ → ℕ → List ℕ → List ℕ → List ℕ → Cursor → Simulation
 gathered settings x status bytes tags words cursor =
     record { state = stateOf settings x (statusIn status) bytes tags; history = historyOf words cursor }
+
+-- the machine among them
+abbrev pub machineWith : Settings → List ℕ → ℕ → Cursor → Machine
+machineWith settings x status cursor = record { settings = settings; registers = record { x = x; status = statusIn status }; cursor = cursor }
 
 -- an effect recorded and applied
 abbrev pub carriedOut : Effect → Simulation → Simulation

@@ -2,7 +2,7 @@
 use borrow.Author.Needs.{needs}
 use mathlib.Core.Bool.{not, Bool·not-not}
 use mathlib.Core.Path.{sym, ap, _∙_}
-use Rattle.machine.proofs.Setup.{setup-state, state-status}
+use Rattle.machine.proofs.Setup.{setup-status}
 use Rattle.simulator.specs.Simulation.{wellFormed}
 use Rattle.simulator.proofs.Setups.{list-refused}
 use Rattle.simulator.proofs.playing.play_list.Statement.{statement}
@@ -31,7 +31,7 @@ returns c =
 pack-requires : tie.Need-pack-requires
 pack-requires c κs =
     let test = c .before .before .before .before in
-    state-status _ _ _ _ (setup-state _ _ _ _ (sym (test .before .setup-ok .ensures) ∙ sym (Bool·not-not _) ∙ ap not (test .if1 .left)))
+    setup-status _ _ _ _ (sym (test .before .setup-ok .ensures) ∙ sym (Bool·not-not _) ∙ ap not (test .if1 .left))
 
 play-all-requires : tie.Need-play-all-requires
 unfolding wellFormed
@@ -42,8 +42,8 @@ play-all-requires c κs =
     let h = sym (test .before .setup-ok .ensures) ∙ sym (Bool·not-not _) ∙ ap not (test .if1 .left) in
     (rw (packed .pack .ensures .0) h, (packed .pack .ensures .1, start .pre))
 
-unpack-requires : tie.Need-unpack-requires
-unpack-requires c κs = search needs
+machine-of-requires : tie.Need-machine-of-requires
+machine-of-requires c κs = search needs
 
 same-length-3 : tie.Need-same-length-3
 same-length-3 c = search needs
@@ -64,7 +64,7 @@ returns-2 : tie.Need-returns-2
 returns-2 c =
     let made = c .before .before .before .before .before .before .before .before .before .before .before .before in
     let packed = made .before .before .before .before .before .before .before in
-    rw (c .unpack .ensures, ← (packed .pack .ensures .0)) (made .play-all .ensures)
+    rw (c .machine-of .ensures, ← (packed .pack .ensures .0)) (made .play-all .ensures)
 
 pub play-list-spec : {M : Type 1} → statement M
 play-list-spec =
@@ -77,7 +77,7 @@ play-list-spec =
     returns
     pack-requires
     play-all-requires
-    unpack-requires
+    machine-of-requires
     same-length-3
     same-length-4
     same-length-5

@@ -4,7 +4,7 @@ use Rattle.machine.specs.declared.Code.the-variants.{Done}
 use Rattle.machine.specs.State.{stateOf}
 use Rattle.history.specs.Inside.StatusWords.{statusIn}
 use Rattle.simulator.specs.Calls.{returned}
-use Rattle.simulator.proofs.RegisterRecords.{register-record, status-small}
+use Rattle.simulator.proofs.RegisterRecords.{register-record}
 use Rattle.simulator.proofs.register_words.set.Statement.{statement}
 use Rattle.simulator.proofs.register_words.set.Tie as tie
 
