@@ -33,19 +33,25 @@ use Rattle.instructions.specs.declared.accesses.Placed.{Placed}
 use Rattle.instructions.specs.declared.accesses.Placed.the-variants.{First, Nowhere}
 use Rattle.instructions.specs.Inside.Effects.{Change, pair, Effect, registerEffect, storeEffect, formEffect, zeroing}
 use Rattle.instructions.specs.Inside.Places.{accessCode, placedBy, storePlace, loadPlace}
-use Rattle.instructions.proofs.Places.{placed-first, placed-nowhere}
+use Rattle.instructions.proofs.Places.{address-aligned, placed-first, placed-nowhere}
 use Rattle.history.specs.Inside.StatusWords.{IsStatus}
 use Rattle.simulator.specs.Calls.{refused, done}
 use Rattle.simulator.specs.Simulation.{Simulation}
 use Rattle.simulator.specs.Inside.Taking.{Took, carriedOut, decodedTaken, formTaken, gathered, opIn, storeTaken, tagStoreOp, zeroedIf}
 
 -- an amount is a whole number of granules
-pub amount-whole : (half imm : ℕ) → imm < 2 * half → half ≤ 256 → signedAmount half imm % 16 ≡ 0
+amount-whole : (half imm : ℕ) → imm < 2 * half → half ≤ 256 → signedAmount half imm % 16 ≡ 0
 amount-whole half imm l k = go (ltb imm half)
   where
     go : (t : Bool) → cond t (imm * 16) (2 ^ 64 - (2 * half - imm) * 16) % 16 ≡ 0
     go true = omega arith
     go false = omega arith
+
+-- so that a store's address is aligned as its base register is
+pub store-aligned : (mode : Mode) (half imm rn : ℕ) {amount address : ℕ} → imm < 2 * half → half ≤ 256 → amount ≡ signedAmount half imm
+    → address ≡ addressOf mode rn amount → address % 16 ≡ rn % 16
+store-aligned mode half imm rn {amount} l k e f =
+    let whole : amount % 16 ≡ 0 = rw e (amount-whole half imm l k) in rw f (address-aligned mode rn amount whole)
 
 -- the operation of bits 23 and 22
 
@@ -105,19 +111,18 @@ module _ (f : Form) (s : Simulation) where
   refused-nowhere first code h = let p = placed-nowhere codeFor code first h in rw (p .0, p .1)
 
 -- a word that is refused changes nothing
-pub took-refused : (settings : Settings) (x : List ℕ) (status : ℕ) (bytes tags words : List ℕ) (cursor : Cursor) (d : Decoded) (code : Code)
-    → IsStatus status → decodedTaken d (gathered settings x status bytes tags words cursor) ≡ refused code
-    → Took (record { code = code; status = status; cursor = cursor }) (gathered settings x status bytes tags words cursor)
-    (decodedTaken d (gathered settings x status bytes tags words cursor)) (λ status cursor. gathered settings x status bytes tags words cursor)
-took-refused settings x status bytes tags words cursor d code packed e = record { same = rw e; packed = packed }
+module _ {settings : Settings} {x : List ℕ} {status : ℕ} {bytes tags words : List ℕ} {cursor : Cursor} where
+  pub took-refused : {code : Code} (d : Decoded) → IsStatus status
+      → decodedTaken d (gathered settings x status bytes tags words cursor) ≡ refused code
+      → Took (record { code = code; status = status; cursor = cursor }) (gathered settings x status bytes tags words cursor)
+      (decodedTaken d (gathered settings x status bytes tags words cursor)) (λ status cursor. gathered settings x status bytes tags words cursor)
+  took-refused d packed e = record { same = rw e; packed = packed }
 
-pub took-undefined : (settings : Settings) (x : List ℕ) (status : ℕ) (bytes tags words : List ℕ) (cursor : Cursor) (d : Decoded)
-    → IsStatus status → d ≡ NoForm
-    → Took (record { code = Undefined; status = status; cursor = cursor }) (gathered settings x status bytes tags words cursor)
-    (decodedTaken d (gathered settings x status bytes tags words cursor)) (λ status cursor. gathered settings x status bytes tags words cursor)
-unfolding decodedTaken
-took-undefined settings x status bytes tags words cursor d packed e =
-    took-refused settings x status bytes tags words cursor d Undefined packed (rw e)
+  pub took-undefined : (d : Decoded) → IsStatus status → d ≡ NoForm
+      → Took (record { code = Undefined; status = status; cursor = cursor }) (gathered settings x status bytes tags words cursor)
+      (decodedTaken d (gathered settings x status bytes tags words cursor)) (λ status cursor. gathered settings x status bytes tags words cursor)
+  unfolding decodedTaken
+  took-undefined d packed e = took-refused d packed (rw e)
 
 -- the operation has its granules and its data
 
