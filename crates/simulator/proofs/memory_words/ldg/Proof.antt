@@ -95,7 +95,8 @@ returns c =
     let form : f ≡ ldgAt (a .w) = rw (at-signed .signed .ensures, at-field3 .field3 .ensures, at-field2 .field2 .ensures, at-field .field .ensures) in
     let place = rw (at-x-or-sp .x-or-sp .ensures) at (at-place-load .place-load .ensures) in
     let before : List ℕ → Simulation = λ bytes. gathered (a .settings) (a .x .now) (a .status) bytes (a .tags .now) (a .history .now) (a .cursor) in
-    let taken : (bytes : List ℕ) → decodedTaken (Is f) (before bytes) ≡ registerTaken (at-or-none .or-none .result) (at-with-tag .with-tag .result) (a .status) (before bytes) =
+    let taken : (bytes : List ℕ) → decodedTaken (Is f) (before bytes)
+    ≡ registerTaken (at-or-none .or-none .result) (at-with-tag .with-tag .result) (a .status) (before bytes) =
     λ bytes. rw (at-or-none .or-none .ensures, at-with-tag .with-tag .ensures, at-x-or-zero .x-or-zero .ensures, at-load .load .ensures .0)
     (ldg-first (before bytes) (at-field .field .result) (at-field2 .field2 .result) (at-signed .signed .result) (told .0 .0) (sym place ∙ told .1)) in
     λ bytes. rw (← form, taken bytes) (at-set .set .ensures (a .settings) bytes (a .tags .now))

@@ -1,6 +1,6 @@
 -- `simulator::memory_words::stgp` meets its contract. Assumes nothing.
 use borrow.Author.Needs.{needs}
-use Prim.Native.Nat.{ℕ, _<_, _≤_}
+use Prim.Native.Nat.{_<_, _≤_}
 use mathlib.Core.Path.{_≡_, sym, _∙_}
 use native.Mathlib.Omega.{arith}
 use lib.ListN.{length}
@@ -61,7 +61,8 @@ place-requires c κs =
     let start = at-field4 .before .before .before .before .before .before .before in
     let (low, (high, (sizes, (sixteen, ready)))) = start .pre in
     let small : at-field4 .field4 .result < 128 = rw (at-field4 .field4 .ensures) (omega arith) in
-    let aligned = store-aligned (modeOf (start .args .mode)) 64 (at-field4 .field4 .result) (at-x-or-sp .x-or-sp .result) small (omega arith) (at-signed .signed .ensures) (at-address-of .address-of .ensures) in
+    let aligned = store-aligned (modeOf (start .args .mode)) 64 (at-field4 .field4 .result) (at-x-or-sp .x-or-sp .result) small (omega arith)
+    (at-signed .signed .ensures) (at-address-of .address-of .ensures) in
     (sizes, (omega arith, (omega arith, aligned)))
 
 enum-known-placed : tie.Need-enum-known-placed
@@ -80,9 +81,10 @@ store-pair-requires c κs =
     let (low, (high, (sizes, (sixteen, ready)))) = start .pre in
     let told = at-placed .placed .given in
     let small : at-field3 .field3 .result ≤ 31 = rw (at-field3 .field3 .ensures) (omega arith) in
-    let register : at-writeback-to .writeback-to .result ≤ 32 = rw (at-writeback-to .writeback-to .ensures) (writeback-le (modeOf (a .mode)) (at-field3 .field3 .result) small) in
-    let inside = store-inside (a .settings .base) (length (a .tags .now)) (at-field3 .field3 .result) (at-x-or-sp .x-or-sp .result) (at-address-of .address-of .result) 1 (told .0 .0)
-    sizes (omega arith) (sym (at-place .place .ensures) ∙ told .1) in
+    let register : at-writeback-to .writeback-to .result ≤ 32 =
+    rw (at-writeback-to .writeback-to .ensures) (writeback-le (modeOf (a .mode)) (at-field3 .field3 .result) small) in
+    let inside = store-inside (a .settings .base) (length (a .tags .now)) (at-field3 .field3 .result) (at-x-or-sp .x-or-sp .result)
+    (at-address-of .address-of .result) 1 (told .0 .0) sizes (omega arith) (sym (at-place .place .ensures) ∙ told .1) in
     (register, (inside, (sixteen, ready)))
 
 enum-known-placed-2 : tie.Need-enum-known-placed-2
@@ -119,10 +121,12 @@ returns c =
     let before = gathered (a .settings) (a .x .now) (a .status) (a .bytes .now) (a .tags .now) (a .history .now) (a .cursor) in
     let mode = modeOf (a .mode) in
     let f = Stgp mode (at-field .field .result) (at-field2 .field2 .result) (at-field3 .field3 .result) (at-signed .signed .result) in
-    let form : f ≡ stgpAt mode (a .w) = rw (at-signed .signed .ensures, at-field4 .field4 .ensures, at-field3 .field3 .ensures, at-field2 .field2 .ensures, at-field .field .ensures) in
+    let form : f ≡ stgpAt mode (a .w) =
+    rw (at-signed .signed .ensures, at-field4 .field4 .ensures, at-field3 .field3 .ensures, at-field2 .field2 .ensures, at-field .field .ensures) in
     let place = rw (at-address-of .address-of .ensures, at-x-or-sp .x-or-sp .ensures) at (at-place .place .ensures) in
     let taken : decodedTaken (Is f) before
-    ≡ storeTaken (at-writeback-to .writeback-to .result) (at-wrapping-add-u64 .wrapping-add-u64 .result) (told .0 .0) 1 (at-tag-of .tag-of .result) (pair (at-x-or-zero .x-or-zero .result) (at-x-or-zero2 .x-or-zero2 .result)) before =
+    ≡ storeTaken (at-writeback-to .writeback-to .result) (at-wrapping-add-u64 .wrapping-add-u64 .result) (told .0 .0) 1 (at-tag-of .tag-of .result)
+    (pair (at-x-or-zero .x-or-zero .result) (at-x-or-zero2 .x-or-zero2 .result)) before =
     rw (
       at-writeback-to .writeback-to .ensures,
       at-wrapping-add-u64 .wrapping-add-u64 .ensures,
@@ -131,7 +135,8 @@ returns c =
       at-x-or-zero .x-or-zero .ensures,
       at-x-or-zero2 .x-or-zero2 .ensures,
       at-x-or-sp .x-or-sp .ensures,
-    ) (stgp-first before mode (at-field .field .result) (at-field2 .field2 .result) (at-field3 .field3 .result) (at-signed .signed .result) (told .0 .0) (sym place ∙ told .1)) in
+    ) (stgp-first before mode (at-field .field .result) (at-field2 .field2 .result) (at-field3 .field3 .result) (at-signed .signed .result) (told .0 .0)
+    (sym place ∙ told .1)) in
     rw (← form, taken) (at-store-pair .store-pair .ensures)
 
 returns-2 : tie.Need-returns-2
@@ -152,7 +157,8 @@ returns-2 c =
     let before = gathered (a .settings) (a .x .now) (a .status) (a .bytes .now) (a .tags .now) (a .history .now) (a .cursor) in
     let mode = modeOf (a .mode) in
     let f = Stgp mode (at-field .field .result) (at-field2 .field2 .result) (at-field3 .field3 .result) (at-signed .signed .result) in
-    let form : f ≡ stgpAt mode (a .w) = rw (at-signed .signed .ensures, at-field4 .field4 .ensures, at-field3 .field3 .ensures, at-field2 .field2 .ensures, at-field .field .ensures) in
+    let form : f ≡ stgpAt mode (a .w) =
+    rw (at-signed .signed .ensures, at-field4 .field4 .ensures, at-field3 .field3 .ensures, at-field2 .field2 .ensures, at-field .field .ensures) in
     let place = rw (at-address-of .address-of .ensures, at-x-or-sp .x-or-sp .ensures) at (at-place .place .ensures) in
     rw (← form) (took-refused (Is f) (ready .packed) (refused-nowhere f before _ (told .0 .0) (sym place ∙ told .1)))
 

@@ -1,6 +1,6 @@
 -- `simulator::memory_words::tag_store` meets its contract. Assumes nothing.
 use borrow.Author.Needs.{needs}
-use Prim.Native.Nat.{ℕ, _<_, _≤_}
+use Prim.Native.Nat.{_<_, _≤_}
 use mathlib.Core.Path.{_≡_, sym, _∙_}
 use native.Mathlib.Omega.{arith}
 use lib.ListN.{length}
@@ -54,7 +54,8 @@ place-requires c κs =
     let start = at-field3 .before .before .before .before .before .before in
     let (some, (few, (low, (high, (sizes, (sixteen, ready)))))) = start .pre in
     let small : at-field3 .field3 .result < 512 = rw (at-field3 .field3 .ensures) (omega arith) in
-    let aligned = store-aligned (modeOf (start .args .mode)) 256 (at-field3 .field3 .result) (at-x-or-sp .x-or-sp .result) small (omega arith) (at-signed .signed .ensures) (at-address-of .address-of .ensures) in
+    let aligned = store-aligned (modeOf (start .args .mode)) 256 (at-field3 .field3 .result) (at-x-or-sp .x-or-sp .result) small (omega arith)
+    (at-signed .signed .ensures) (at-address-of .address-of .ensures) in
     (sizes, (some, (few, aligned)))
 
 enum-known-placed : tie.Need-enum-known-placed
@@ -73,9 +74,10 @@ store-requires c κs =
     let (some, (few, (low, (high, (sizes, (sixteen, ready)))))) = start .pre in
     let told = at-placed .placed .given in
     let small : at-field2 .field2 .result ≤ 31 = rw (at-field2 .field2 .ensures) (omega arith) in
-    let register : at-writeback-to .writeback-to .result ≤ 32 = rw (at-writeback-to .writeback-to .ensures) (writeback-le (modeOf (a .mode)) (at-field2 .field2 .result) small) in
-    let inside = store-inside (a .settings .base) (length (a .tags .now)) (at-field2 .field2 .result) (at-x-or-sp .x-or-sp .result) (at-address-of .address-of .result) (a .granules) (told .0 .0)
-    sizes some (sym (at-place .place .ensures) ∙ told .1) in
+    let register : at-writeback-to .writeback-to .result ≤ 32 =
+    rw (at-writeback-to .writeback-to .ensures) (writeback-le (modeOf (a .mode)) (at-field2 .field2 .result) small) in
+    let inside = store-inside (a .settings .base) (length (a .tags .now)) (at-field2 .field2 .result) (at-x-or-sp .x-or-sp .result)
+    (at-address-of .address-of .result) (a .granules) (told .0 .0) sizes some (sym (at-place .place .ensures) ∙ told .1) in
     (register, (some, (few, (inside, (sixteen, ready)))))
 
 enum-known-placed-2 : tie.Need-enum-known-placed-2
@@ -113,12 +115,20 @@ returns c =
     let mode = modeOf (a .mode) in
     let op = tagStoreOp (a .granules) (a .zeroes) in
     let f = TagStore op mode (at-field .field .result) (at-field2 .field2 .result) (at-signed .signed .result) in
-    let form : f ≡ tagStoreAt op mode (a .w) = rw (at-signed .signed .ensures, at-field3 .field3 .ensures, at-field2 .field2 .ensures, at-field .field .ensures) in
+    let form : f ≡ tagStoreAt op mode (a .w) =
+    rw (at-signed .signed .ensures, at-field3 .field3 .ensures, at-field2 .field2 .ensures, at-field .field .ensures) in
     let place = rw (at-address-of .address-of .ensures, at-x-or-sp .x-or-sp .ensures) at (at-place .place .ensures) in
     let taken : decodedTaken (Is f) before
-    ≡ storeTaken (at-writeback-to .writeback-to .result) (at-wrapping-add-u64 .wrapping-add-u64 .result) (told .0 .0) (a .granules) (at-tag-of .tag-of .result) (zeroedIf (a .zeroes)) before =
-    rw (at-writeback-to .writeback-to .ensures, at-wrapping-add-u64 .wrapping-add-u64 .ensures, at-tag-of .tag-of .ensures .0, at-x-or-sp2 .x-or-sp2 .ensures, at-x-or-sp .x-or-sp .ensures)
-    (tag-store-first before (a .granules) (a .zeroes) some few mode (at-field .field .result) (at-field2 .field2 .result) (at-signed .signed .result) (told .0 .0) (sym place ∙ told .1)) in
+    ≡ storeTaken (at-writeback-to .writeback-to .result) (at-wrapping-add-u64 .wrapping-add-u64 .result) (told .0 .0) (a .granules) (at-tag-of .tag-of .result)
+    (zeroedIf (a .zeroes)) before =
+    rw (
+      at-writeback-to .writeback-to .ensures,
+      at-wrapping-add-u64 .wrapping-add-u64 .ensures,
+      at-tag-of .tag-of .ensures .0,
+      at-x-or-sp2 .x-or-sp2 .ensures,
+      at-x-or-sp .x-or-sp .ensures,
+    ) (tag-store-first before (a .granules) (a .zeroes) some few mode (at-field .field .result) (at-field2 .field2 .result) (at-signed .signed .result) (told .0 .0)
+    (sym place ∙ told .1)) in
     rw (← form, taken) (at-store .store .ensures)
 
 returns-2 : tie.Need-returns-2
@@ -139,10 +149,11 @@ returns-2 c =
     let mode = modeOf (a .mode) in
     let op = tagStoreOp (a .granules) (a .zeroes) in
     let f = TagStore op mode (at-field .field .result) (at-field2 .field2 .result) (at-signed .signed .result) in
-    let form : f ≡ tagStoreAt op mode (a .w) = rw (at-signed .signed .ensures, at-field3 .field3 .ensures, at-field2 .field2 .ensures, at-field .field .ensures) in
+    let form : f ≡ tagStoreAt op mode (a .w) =
+    rw (at-signed .signed .ensures, at-field3 .field3 .ensures, at-field2 .field2 .ensures, at-field .field .ensures) in
     let place = rw (at-address-of .address-of .ensures, at-x-or-sp .x-or-sp .ensures) at (at-place .place .ensures) in
-    let taken = tag-store-nowhere before (a .granules) (a .zeroes) some few mode (at-field .field .result) (at-field2 .field2 .result) (at-signed .signed .result) (told .0 .0)
-    (sym place ∙ told .1) in
+    let taken = tag-store-nowhere before (a .granules) (a .zeroes) some few mode (at-field .field .result) (at-field2 .field2 .result)
+    (at-signed .signed .result) (told .0 .0) (sym place ∙ told .1) in
     rw (← form) (took-refused (Is f) (ready .packed) taken)
 
 pub tag-store-spec : {M : Type 1} → statement M
