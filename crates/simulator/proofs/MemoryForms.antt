@@ -2,7 +2,7 @@
 use Prim.Native.Nat.{ℕ, zero, suc, _+_, _-_, _*_, _/_, _%_, _^_, _≤_, _<_}
 use mathlib.Core.Bool.{Bool, true, false, cond}
 use mathlib.Core.List.{List}
-use mathlib.Core.Path.{_≡_, refl, sym, ap, _∙_}
+use mathlib.Core.Path.{_≡_, refl, ap, _∙_}
 use native.Mathlib.Omega.{arith}
 use lib.Dec.{eqb, ltb}
 use lib.ListN.{length}
@@ -10,6 +10,7 @@ use lib.Pow.{mod-pow-add}
 use Rattle.bits.specs.Fields.{bitsAt}
 use Rattle.tag.specs.PointerTags.{tagOf, withTag}
 use Rattle.isa.specs.declared.Mode.{Mode}
+use Rattle.isa.specs.declared.TagStoreOp.{TagStoreOp}
 use Rattle.isa.specs.declared.TagStoreOp.the-variants.{Stg, Stzg, St2g, Stz2g}
 use Rattle.isa.specs.declared.Form.{Form}
 use Rattle.isa.specs.declared.Form.the-variants.{Ldg, TagStore, Stgp}
@@ -17,7 +18,7 @@ use Rattle.isa.specs.declared.Decoded.{Decoded}
 use Rattle.isa.specs.declared.Decoded.the-variants.{Is}
 use Rattle.isa.specs.declared.Decoded.the-variants.{Undefined as NoForm}
 use Rattle.isa.specs.Decoding.{signedAmount, ldgAt, tagStoreAt, decodeOf}
-use Rattle.isa.specs.Inside.DecodingBranches.{ifBit21, ldgBranch, modeOf, modeBranch}
+use Rattle.isa.specs.Inside.DecodingBranches.{ifBit21, ldgBranch, modeOf}
 use Rattle.isa.proofs.Decoding.{decode-memory-tags}
 use Rattle.isa.proofs.Table.{tagStoreTop}
 use Rattle.memory.specs.Locations.{indexOf, onward}
@@ -25,48 +26,52 @@ use Rattle.machine.specs.declared.Code.{Code}
 use Rattle.machine.specs.declared.Code.the-variants.{Undefined}
 use Rattle.machine.specs.declared.Cursor.{Cursor}
 use Rattle.machine.specs.declared.Settings.{Settings}
-use Rattle.machine.specs.Codes.{isDone}
 use Rattle.machine.specs.Registers.{xOrSp, xOrZero, orNone}
-use Rattle.instructions.specs.Accesses.{access, accessOf, addressOf, granulesNamed, roundedDown, writebackTo}
+use Rattle.instructions.specs.Accesses.{accessOf, addressOf, granulesNamed, roundedDown, writebackTo}
 use Rattle.instructions.specs.TagLoad.{loadedTag}
 use Rattle.instructions.specs.declared.accesses.Placed.{Placed}
 use Rattle.instructions.specs.declared.accesses.Placed.the-variants.{First, Nowhere}
 use Rattle.instructions.specs.Inside.Effects.{Change, pair, Effect, registerEffect, storeEffect, formEffect, zeroing}
 use Rattle.instructions.specs.Inside.Places.{accessCode, placedBy, storePlace, loadPlace}
-use Rattle.instructions.proofs.Places.{placed-first, placed-nowhere}
+use Rattle.instructions.proofs.Places.{address-aligned, placed-first, placed-nowhere}
 use Rattle.history.specs.Inside.StatusWords.{IsStatus}
 use Rattle.simulator.specs.Calls.{refused, done}
 use Rattle.simulator.specs.Simulation.{Simulation}
 use Rattle.simulator.specs.Inside.Taking.{Took, carriedOut, decodedTaken, formTaken, gathered, opIn, storeTaken, tagStoreOp, zeroedIf}
 
 -- an amount is a whole number of granules
-pub amount-whole : (half imm : ℕ) → imm < 2 * half → half ≤ 256 → signedAmount half imm % 16 ≡ 0
+amount-whole : (half imm : ℕ) → imm < 2 * half → half ≤ 256 → signedAmount half imm % 16 ≡ 0
 amount-whole half imm l k = go (ltb imm half)
   where
     go : (t : Bool) → cond t (imm * 16) (2 ^ 64 - (2 * half - imm) * 16) % 16 ≡ 0
     go true = omega arith
     go false = omega arith
 
+-- so that a store's address is aligned as its base register is
+pub store-aligned : (mode : Mode) (half imm rn : ℕ) {amount address : ℕ} → imm < 2 * half → half ≤ 256 → amount ≡ signedAmount half imm
+    → address ≡ addressOf mode rn amount → address % 16 ≡ rn % 16
+store-aligned mode half imm rn {amount} l k e f =
+    let whole : amount % 16 ≡ 0 = rw e (amount-whole half imm l k) in rw f (address-aligned mode rn amount whole)
+
 -- the operation of bits 23 and 22
 
-top-of : (a b : ℕ) → a < 2 → b < 2 → 868 + 2 * a + b ≡ tagStoreTop (tagStoreOp (cond (eqb a 1) 2 1) (eqb b 1))
-top-of zero zero k l = refl
-top-of zero (suc zero) k l = refl
-top-of (suc zero) zero k l = refl
-top-of (suc zero) (suc zero) k l = refl
-top-of (suc (suc a)) b k l = absurd (omega (arith, k))
-top-of zero (suc (suc b)) k l = absurd (omega (arith, l))
-top-of (suc zero) (suc (suc b)) k l = absurd (omega (arith, l))
+two-bits : (P : ℕ → ℕ → Type 0) → P 0 0 → P 0 1 → P 1 0 → P 1 1 → (a b : ℕ) → a < 2 → b < 2 → P a b
+two-bits P p q r s zero zero k l = p
+two-bits P p q r s zero (suc zero) k l = q
+two-bits P p q r s (suc zero) zero k l = r
+two-bits P p q r s (suc zero) (suc zero) k l = s
+two-bits P p q r s (suc (suc a)) b k l = absurd (omega (arith, k))
+two-bits P p q r s zero (suc (suc b)) k l = absurd (omega (arith, l))
+two-bits P p q r s (suc zero) (suc (suc b)) k l = absurd (omega (arith, l))
 
-ldg-at : (a b w : ℕ) → a < 2 → b < 2
-    → ldgBranch (tagStoreOp (cond (eqb a 1) 2 1) (eqb b 1)) w ≡ cond (eqb (2 * a + b) 1) (Is (ldgAt w)) NoForm
-ldg-at zero zero w k l = refl
-ldg-at zero (suc zero) w k l = refl
-ldg-at (suc zero) zero w k l = refl
-ldg-at (suc zero) (suc zero) w k l = refl
-ldg-at (suc (suc a)) b w k l = absurd (omega (arith, k))
-ldg-at zero (suc (suc b)) w k l = absurd (omega (arith, l))
-ldg-at (suc zero) (suc (suc b)) w k l = absurd (omega (arith, l))
+abbrev opOf : ℕ → ℕ → TagStoreOp
+opOf a b = tagStoreOp (cond (eqb a 1) 2 1) (eqb b 1)
+
+top-of : (a b : ℕ) → a < 2 → b < 2 → 868 + 2 * a + b ≡ tagStoreTop (opOf a b)
+top-of = two-bits (λ a b. 868 + 2 * a + b ≡ tagStoreTop (opOf a b)) refl refl refl refl
+
+ldg-of : (w a b : ℕ) → a < 2 → b < 2 → ldgBranch (opOf a b) w ≡ cond (eqb (2 * a + b) 1) (Is (ldgAt w)) NoForm
+ldg-of w = two-bits (λ a b. ldgBranch (opOf a b) w ≡ cond (eqb (2 * a + b) 1) (Is (ldgAt w)) NoForm) refl refl refl refl
 
 top-parts : (u : ℕ) → u % 2 ^ 10 ≡ u % 2 + u / 2 % 2 * 2 + u / 2 ^ 2 % 2 ^ 8 * 2 ^ 2
 top-parts u = omega (arith, mod-pow-add u 8 2, mod-pow-add u 1 1)
@@ -85,7 +90,7 @@ decode-d9 w h top =
     let low : 2 * bitsAt w 23 1 + bitsAt w 22 1 ≡ bitsAt w 22 2 = omega arith in
     let a : bitsAt w 23 1 < 2 = omega arith in
     let b : bitsAt w 22 1 < 2 = omega arith in
-    let ldg = ldg-at (bitsAt w 23 1) (bitsAt w 22 1) w a b ∙ ap (λ (k : ℕ). cond (eqb k 1) (Is (ldgAt w)) NoForm) low in
+    let ldg = ldg-of w (bitsAt w 23 1) (bitsAt w 22 1) a b ∙ ap (λ (k : ℕ). cond (eqb k 1) (Is (ldgAt w)) NoForm) low in
     decode-memory-tags w h (opIn w) (parts ∙ top-of (bitsAt w 23 1) (bitsAt w 22 1) a b)
     ∙ ap (λ (d : Decoded). ifBit21 w 1 (cond (eqb (bitsAt w 10 2) 0) d (Is (tagStoreAt (opIn w) (modeOf (bitsAt w 10 2)) w)))) ldg
 
@@ -105,19 +110,18 @@ module _ (f : Form) (s : Simulation) where
   refused-nowhere first code h = let p = placed-nowhere codeFor code first h in rw (p .0, p .1)
 
 -- a word that is refused changes nothing
-pub took-refused : (settings : Settings) (x : List ℕ) (status : ℕ) (bytes tags words : List ℕ) (cursor : Cursor) (d : Decoded) (code : Code)
-    → IsStatus status → decodedTaken d (gathered settings x status bytes tags words cursor) ≡ refused code
-    → Took (record { code = code; status = status; cursor = cursor }) (gathered settings x status bytes tags words cursor)
-    (decodedTaken d (gathered settings x status bytes tags words cursor)) (λ status cursor. gathered settings x status bytes tags words cursor)
-took-refused settings x status bytes tags words cursor d code packed e = record { same = rw e; packed = packed }
+module _ {settings : Settings} {x : List ℕ} {status : ℕ} {bytes tags words : List ℕ} {cursor : Cursor} where
+  pub took-refused : {code : Code} (d : Decoded) → IsStatus status
+      → decodedTaken d (gathered settings x status bytes tags words cursor) ≡ refused code
+      → Took (record { code = code; status = status; cursor = cursor }) (gathered settings x status bytes tags words cursor)
+      (decodedTaken d (gathered settings x status bytes tags words cursor)) (λ status cursor. gathered settings x status bytes tags words cursor)
+  took-refused d packed e = record { same = rw e; packed = packed }
 
-pub took-undefined : (settings : Settings) (x : List ℕ) (status : ℕ) (bytes tags words : List ℕ) (cursor : Cursor) (d : Decoded)
-    → IsStatus status → d ≡ NoForm
-    → Took (record { code = Undefined; status = status; cursor = cursor }) (gathered settings x status bytes tags words cursor)
-    (decodedTaken d (gathered settings x status bytes tags words cursor)) (λ status cursor. gathered settings x status bytes tags words cursor)
-unfolding decodedTaken
-took-undefined settings x status bytes tags words cursor d packed e =
-    took-refused settings x status bytes tags words cursor d Undefined packed (rw e)
+  pub took-undefined : (d : Decoded) → IsStatus status → d ≡ NoForm
+      → Took (record { code = Undefined; status = status; cursor = cursor }) (gathered settings x status bytes tags words cursor)
+      (decodedTaken d (gathered settings x status bytes tags words cursor)) (λ status cursor. gathered settings x status bytes tags words cursor)
+  unfolding decodedTaken
+  took-undefined d packed e = took-refused d packed (rw e)
 
 -- the operation has its granules and its data
 
@@ -139,49 +143,51 @@ op-zeroing g z = go (eqb g 2) z
     go false false = refl
 
 module _ (s : Simulation) where
-  pub ldg-first : (t n amount i : ℕ)
-      → loadPlace (s .state .settings .base) (length (s .state .tags)) n (xOrSp (s .state .registers .x) n) amount ≡ First i
-      → decodedTaken (Is (Ldg t n amount)) s
-      ≡ done
-      (carriedOut
-      (registerEffect (orNone t) (withTag (xOrZero (s .state .registers .x) t) (loadedTag (s .state .settings) (s .state .tags) i)) (s .state .registers .status))
-      s)
-  ldg-first t n amount i h =
-      let p = done-first (Ldg t n amount) s (indexOf (s .state .settings .base) (roundedDown (onward (xOrSp (s .state .registers .x) n) amount))) i h in
-      rw (← (p .1)) (p .0)
+  abbrev x : List ℕ
+  x = s .state .registers .x
 
-  -- the place of a store
+  abbrev base : ℕ
+  base = s .state .settings .base
+
+  -- the place of LDG, and of a store
+
+  abbrev loadAt : ℕ → ℕ → Placed
+  loadAt n amount = loadPlace base (length (s .state .tags)) n (xOrSp x n) amount
+
   abbrev storeAt : Mode → ℕ → ℕ → ℕ → Placed
-  storeAt mode n amount g =
-      let rn = xOrSp (s .state .registers .x) n in
-      storePlace (s .state .settings .base) (length (s .state .tags)) n rn (addressOf mode rn amount) g
+  storeAt mode n amount g = storePlace base (length (s .state .tags)) n (xOrSp x n) (addressOf mode (xOrSp x n) amount) g
+
+  pub ldg-first : (t n amount i : ℕ) → loadAt n amount ≡ First i
+      → decodedTaken (Is (Ldg t n amount)) s
+      ≡ done (carriedOut (registerEffect (orNone t) (withTag (xOrZero x t) (loadedTag (s .state .settings) (s .state .tags) i)) (s .state .registers .status)) s)
+  ldg-first t n amount i h =
+      let p = done-first (Ldg t n amount) s (indexOf base (roundedDown (onward (xOrSp x n) amount))) i h in
+      rw (← (p .1)) (p .0)
 
   store-first : (f : Form) (mode : Mode) (n amount g tag i : ℕ) (change : Change)
       → formEffect f (s .state) ≡ storeEffect mode n amount g tag change (s .state)
-      → placedBy (codeFor f s) (indexOf (s .state .settings .base) (addressOf mode (xOrSp (s .state .registers .x) n) amount)) ≡ First i
-      → decodedTaken (Is f) s
-      ≡ storeTaken (writebackTo mode n) (onward (xOrSp (s .state .registers .x) n) amount) i g tag change s
+      → placedBy (codeFor f s) (indexOf base (addressOf mode (xOrSp x n) amount)) ≡ First i
+      → decodedTaken (Is f) s ≡ storeTaken (writebackTo mode n) (onward (xOrSp x n) amount) i g tag change s
   store-first f mode n amount g tag i change e h =
-      let p = done-first f s (indexOf (s .state .settings .base) (addressOf mode (xOrSp (s .state .registers .x) n) amount)) i h in
+      let p = done-first f s (indexOf base (addressOf mode (xOrSp x n) amount)) i h in
       p .0 ∙ ap (λ (effect : Effect). done (carriedOut effect s)) e
-      ∙ ap (λ (first : ℕ). storeTaken (writebackTo mode n) (onward (xOrSp (s .state .registers .x) n) amount) first g tag change s) (p .1)
+      ∙ ap (λ (first : ℕ). storeTaken (writebackTo mode n) (onward (xOrSp x n) amount) first g tag change s) (p .1)
 
   pub stgp-first : (mode : Mode) (t t2 n amount i : ℕ) → storeAt mode n amount 1 ≡ First i
       → decodedTaken (Is (Stgp mode t t2 n amount)) s
-      ≡ storeTaken (writebackTo mode n) (onward (xOrSp (s .state .registers .x) n) amount) i 1
-      (tagOf (addressOf mode (xOrSp (s .state .registers .x) n) amount)) (pair (xOrZero (s .state .registers .x) t) (xOrZero (s .state .registers .x) t2)) s
+      ≡ storeTaken (writebackTo mode n) (onward (xOrSp x n) amount) i 1 (tagOf (addressOf mode (xOrSp x n) amount)) (pair (xOrZero x t) (xOrZero x t2)) s
   stgp-first mode t t2 n amount i h = store-first (Stgp mode t t2 n amount) mode n amount 1 _ i _ refl h
 
   module _ (g : ℕ) (zeroes : Bool) (some : 1 ≤ g) (few : g ≤ 2) (mode : Mode) (t n amount : ℕ) where
     pub tag-store-first : (i : ℕ) → storeAt mode n amount g ≡ First i
         → decodedTaken (Is (TagStore (tagStoreOp g zeroes) mode t n amount)) s
-        ≡ storeTaken (writebackTo mode n) (onward (xOrSp (s .state .registers .x) n) amount) i g (tagOf (xOrSp (s .state .registers .x) t)) (zeroedIf zeroes) s
+        ≡ storeTaken (writebackTo mode n) (onward (xOrSp x n) amount) i g (tagOf (xOrSp x t)) (zeroedIf zeroes) s
     tag-store-first i h =
-        store-first (TagStore (tagStoreOp g zeroes) mode t n amount) mode n amount g (tagOf (xOrSp (s .state .registers .x) t)) i (zeroedIf zeroes)
+        store-first (TagStore (tagStoreOp g zeroes) mode t n amount) mode n amount g (tagOf (xOrSp x t)) i (zeroedIf zeroes)
         (rw (op-granules g zeroes some few, op-zeroing g zeroes)) (rw (op-granules g zeroes some few) h)
 
     pub tag-store-nowhere : (code : Code) → storeAt mode n amount g ≡ Nowhere code
         → decodedTaken (Is (TagStore (tagStoreOp g zeroes) mode t n amount)) s ≡ refused code
     tag-store-nowhere code h =
-        refused-nowhere (TagStore (tagStoreOp g zeroes) mode t n amount) s
-        (indexOf (s .state .settings .base) (addressOf mode (xOrSp (s .state .registers .x) n) amount)) code (rw (op-granules g zeroes some few) h)
+        refused-nowhere (TagStore (tagStoreOp g zeroes) mode t n amount) s (indexOf base (addressOf mode (xOrSp x n) amount)) code
+        (rw (op-granules g zeroes some few) h)

@@ -68,9 +68,9 @@ module _ (settings : Settings) (x : List ℕ) (status : ℕ) (bytes tags : List 
             (bitsAt status 36 4) (bitsAt status 40 16) status packed,
       )
 
-  -- a store whose parts are as they must be
-  pub took-store : (words : List ℕ) (cursor : Cursor) (register value first granules tag : ℕ) (change : Change)
-      {x′ bytes′ tags′ words′ : List ℕ} {moved : Cursor}
+-- a store whose parts are as they must be
+module _ {settings : Settings} {x : List ℕ} {status : ℕ} {bytes tags words : List ℕ} {cursor : Cursor} where
+  pub took-store : (register value first granules tag : ℕ) (change : Change) {x′ bytes′ tags′ words′ : List ℕ} {moved : Cursor}
       → IsStatus status
       → x′ ≡ written x register value
       → bytes′ ≡ sets bytes (16 * first) (newBytes change granules)
@@ -80,7 +80,7 @@ module _ (settings : Settings) (x : List ℕ) (status : ℕ) (bytes tags : List 
       → Took (record { code = Done; status = status; cursor = moved }) (gathered settings x status bytes tags words cursor)
       (storeTaken register value first granules tag change (gathered settings x status bytes tags words cursor))
       (λ status cursor. gathered settings x′ status bytes′ tags′ words′ cursor)
-  took-store words cursor register value first granules tag change packed e f g h =
+  took-store register value first granules tag change packed e f g h =
       record {
         same = λ i. returned Done 0 (record { state = stateOf settings (e i) (statusIn status) (f i) (g i); history = h i });
         packed = packed;

@@ -8,11 +8,9 @@ use lib.ListN.{length}
 use Rattle.isa.specs.declared.Form.the-variants.{Ldg}
 use Rattle.isa.specs.declared.Decoded.the-variants.{Is}
 use Rattle.isa.specs.Decoding.{ldgAt}
-use Rattle.memory.specs.Locations.{indexOf, onward}
-use Rattle.machine.specs.Registers.{xOrSp}
-use Rattle.instructions.specs.Accesses.{roundedDown}
 use Rattle.instructions.proofs.Places.{load-inside}
 use Rattle.instructions.proofs.Within.{or-none-le}
+use Rattle.simulator.specs.Simulation.{Simulation}
 use Rattle.simulator.specs.Inside.Taking.{decodedTaken, gathered, registerTaken}
 use Rattle.simulator.proofs.MemoryForms.{ldg-first, refused-nowhere, took-refused}
 use Rattle.simulator.proofs.memory_words.ldg.Statement.{statement}
@@ -41,12 +39,17 @@ enum-known-placed c = search needs
 
 load-requires : tie.Need-load-requires
 load-requires c κs =
-    let told = c .before .placed .given in
-    let found = c .before .before .before in
-    let start = c .before .before .before .before .before .before .before .before .before .before .before .before in
+    let at-placed = c .before in
+    let at-place-load = at-placed .before .before in
+    let at-x-or-sp = at-place-load .before in
+    let at-signed = at-x-or-sp .before .before in
+    let at-field2 = at-signed .before .before in
+    let start = at-field2 .before .before .before .before in
     let a = start .args in
-    load-inside (a .settings .base) (length (a .tags .now)) (found .before .before .before .before .before .field2 .result) (found .before .x-or-sp .result) (found .before .before .before .signed .result) (told .0 .0)
-    (start .pre .0) (sym (found .place-load .ensures) ∙ told .1)
+    let (sizes, ready) = start .pre in
+    let told = at-placed .placed .given in
+    load-inside (a .settings .base) (length (a .tags .now)) (at-field2 .field2 .result) (at-x-or-sp .x-or-sp .result) (at-signed .signed .result) (told .0 .0) sizes
+    (sym (at-place-load .place-load .ensures) ∙ told .1)
 
 x-or-zero-requires : tie.Need-x-or-zero-requires
 x-or-zero-requires c κs = search needs
@@ -59,11 +62,12 @@ or-none-requires c κs = search needs
 
 set-requires : tie.Need-set-requires
 set-requires c κs =
-    let start = c .before .before .before .before .before .before .before .before .before .before .before .before .before .before .before .before .before .before .before in
-    let loaded = c .before .before .before .before .before .before .before .before .before .before .before .before .before .before .before .before in
-    let small : loaded .field .result ≤ 31 = rw (loaded .field .ensures) (omega arith) in
-    let register : c .before .or-none .result ≤ 32 = rw (c .before .or-none .ensures) (or-none-le (loaded .field .result) small) in
-    (register, (start .pre .1, start .pre .1 .packed))
+    let at-or-none = c .before in
+    let at-field = at-or-none .before .before .before .before .before .before .before .before .before .before .before .before .before .before .before in
+    let (sizes, ready) = at-field .before .before .before .pre in
+    let small : at-field .field .result ≤ 31 = rw (at-field .field .ensures) (omega arith) in
+    let register : at-or-none .or-none .result ≤ 32 = rw (at-or-none .or-none .ensures) (or-none-le (at-field .field .result) small) in
+    (register, (ready, ready .packed))
 
 enum-known-placed-2 : tie.Need-enum-known-placed-2
 enum-known-placed-2 c = search needs
@@ -73,35 +77,48 @@ same-length c = search needs
 
 returns : tie.Need-returns
 returns c =
-    let told = c .before .before in
-    let given = told .before .before .before .before .before .before .before .before .before .placed .given in
-    let found = c .before .before .before .before .before .before .before .before .before .before .before .before .before in
-    let a = c .before .before .before .before .before .before .before .before .before .before .before .before .before .before .before .before .before .before .before .before .before .before .args in
-    let f = Ldg (found .before .before .before .before .before .before .field .result) (found .before .before .before .before .before .field2 .result) (found .before .before .before .signed .result) in
-    let form : f ≡ ldgAt (a .w) = rw (found .before .before .before .signed .ensures, found .before .before .before .before .field3 .ensures, found .before .before .before .before .before .field2 .ensures, found .before .before .before .before .before .before .field .ensures) in
-    let place = rw (found .before .x-or-sp .ensures) at (found .place-load .ensures) in
-    let taken : (bytes : List ℕ) → decodedTaken (Is f) (gathered (a .settings) (a .x .now) (a .status) bytes (a .tags .now) (a .history .now) (a .cursor))
-    ≡ registerTaken (told .before .before .or-none .result) (told .before .before .before .before .with-tag .result) (a .status)
-    (gathered (a .settings) (a .x .now) (a .status) bytes (a .tags .now) (a .history .now) (a .cursor)) =
-    λ bytes. rw (told .before .before .or-none .ensures, told .before .before .before .before .with-tag .ensures, told .before .before .before .before .before .x-or-zero .ensures, told .before .before .before .before .before .before .before .load .ensures .0)
-    (ldg-first (gathered (a .settings) (a .x .now) (a .status) bytes (a .tags .now) (a .history .now) (a .cursor)) (found .before .before .before .before .before .before .field .result)
-    (found .before .before .before .before .before .field2 .result) (found .before .before .before .signed .result) (given .0 .0) (sym place ∙ given .1)) in
-    λ bytes. rw (← form, taken bytes) (told .set .ensures (a .settings) bytes (a .tags .now))
+    let at-set = c .before .before in
+    let at-or-none = at-set .before .before in
+    let at-with-tag = at-or-none .before .before in
+    let at-x-or-zero = at-with-tag .before in
+    let at-load = at-x-or-zero .before .before in
+    let at-placed = at-load .before .before in
+    let at-place-load = at-placed .before .before in
+    let at-x-or-sp = at-place-load .before in
+    let at-signed = at-x-or-sp .before .before in
+    let at-field3 = at-signed .before in
+    let at-field2 = at-field3 .before in
+    let at-field = at-field2 .before in
+    let a = at-field .before .before .before .args in
+    let told = at-placed .placed .given in
+    let f = Ldg (at-field .field .result) (at-field2 .field2 .result) (at-signed .signed .result) in
+    let form : f ≡ ldgAt (a .w) = rw (at-signed .signed .ensures, at-field3 .field3 .ensures, at-field2 .field2 .ensures, at-field .field .ensures) in
+    let place = rw (at-x-or-sp .x-or-sp .ensures) at (at-place-load .place-load .ensures) in
+    let before : List ℕ → Simulation = λ bytes. gathered (a .settings) (a .x .now) (a .status) bytes (a .tags .now) (a .history .now) (a .cursor) in
+    let taken : (bytes : List ℕ) → decodedTaken (Is f) (before bytes)
+    ≡ registerTaken (at-or-none .or-none .result) (at-with-tag .with-tag .result) (a .status) (before bytes) =
+    λ bytes. rw (at-or-none .or-none .ensures, at-with-tag .with-tag .ensures, at-x-or-zero .x-or-zero .ensures, at-load .load .ensures .0)
+    (ldg-first (before bytes) (at-field .field .result) (at-field2 .field2 .result) (at-signed .signed .result) (told .0 .0) (sym place ∙ told .1)) in
+    λ bytes. rw (← form, taken bytes) (at-set .set .ensures (a .settings) bytes (a .tags .now))
 
 returns-2 : tie.Need-returns-2
 returns-2 c =
-    let told = c .before .placed2 .given in
-    let found = c .before .before .before in
-    let start = c .before .before .before .before .before .before .before .before .before .before .before .before in
+    let at-placed2 = c .before in
+    let at-place-load = at-placed2 .before .before in
+    let at-x-or-sp = at-place-load .before in
+    let at-signed = at-x-or-sp .before .before in
+    let at-field3 = at-signed .before in
+    let at-field2 = at-field3 .before in
+    let at-field = at-field2 .before in
+    let start = at-field .before .before .before in
     let a = start .args in
-    let f = Ldg (found .before .before .before .before .before .before .field .result) (found .before .before .before .before .before .field2 .result) (found .before .before .before .signed .result) in
-    let form : f ≡ ldgAt (a .w) = rw (found .before .before .before .signed .ensures, found .before .before .before .before .field3 .ensures, found .before .before .before .before .before .field2 .ensures, found .before .before .before .before .before .before .field .ensures) in
-    let place = rw (found .before .x-or-sp .ensures) at (found .place-load .ensures) in
-    λ bytes. rw (← form) (took-refused (a .settings) (a .x .now) (a .status) bytes (a .tags .now) (a .history .now) (a .cursor) (Is f) (told .0 .0)
-    (start .pre .1 .packed)
-    (refused-nowhere f (gathered (a .settings) (a .x .now) (a .status) bytes (a .tags .now) (a .history .now) (a .cursor))
-    (indexOf (a .settings .base) (roundedDown (onward (xOrSp (a .x .now) (found .before .before .before .before .before .field2 .result)) (found .before .before .before .signed .result)))) (told .0 .0)
-    (sym place ∙ told .1)))
+    let (sizes, ready) = start .pre in
+    let told = at-placed2 .placed2 .given in
+    let f = Ldg (at-field .field .result) (at-field2 .field2 .result) (at-signed .signed .result) in
+    let form : f ≡ ldgAt (a .w) = rw (at-signed .signed .ensures, at-field3 .field3 .ensures, at-field2 .field2 .ensures, at-field .field .ensures) in
+    let place = rw (at-x-or-sp .x-or-sp .ensures) at (at-place-load .place-load .ensures) in
+    let before : List ℕ → Simulation = λ bytes. gathered (a .settings) (a .x .now) (a .status) bytes (a .tags .now) (a .history .now) (a .cursor) in
+    λ bytes. rw (← form) (took-refused (Is f) (ready .packed) (refused-nowhere f (before bytes) _ (told .0 .0) (sym place ∙ told .1)))
 
 pub ldg-spec : {M : Type 1} → statement M
 ldg-spec =

@@ -21,9 +21,10 @@ field-requires-2 c κs = search needs
 
 tag-stores-requires : tie.Need-tag-stores-requires
 tag-stores-requires c κs =
-    let tested = c .before .before .before .before in
-    let small : tested .before .field2 .result ≤ 3 = rw (tested .before .field2 .ensures) (omega arith) in
-    (omega (arith, tested .if2 .taken), (small, c .before .before .before .before .before .before .before .before .before .before .before .pre .1 .1))
+    let at-if2 = c .before .before .before .before in
+    let at-field2 = at-if2 .before in
+    let small : at-field2 .field2 .result ≤ 3 = rw (at-field2 .field2 .ensures) (omega arith) in
+    (omega (arith, at-if2 .if2 .taken), (small, at-field2 .before .before .before .before .before .before .pre .1 .1))
 
 same-length : tie.Need-same-length
 same-length c = search needs
@@ -36,13 +37,21 @@ same-length-3 c = search needs
 
 returns : tie.Need-returns
 returns c =
-    let tested = c .before .before .before .before .before .before .before .before .before .before .before in
-    let start = c .before .before .before .before .before .before .before .before .before .before .before .before .before .before .before .before .before .before in
-    let a = start .args in
-    let decoded : decodeOf (a .w) ≡ Is (tagStoreAt (opIn (a .w)) (modeOf (tested .before .field2 .result)) (a .w)) =
-    decode-d9 (a .w) (start .pre .0) (start .pre .1 .0)
-    ∙ rw (eq-eqb (bitsAt (a .w) 21 1) 1 (sym (tested .before .before .before .field .ensures) ∙ tested .before .before .if1 .taken), ne-eqb (bitsAt (a .w) 10 2) 0 (λ e. tested .if2 .taken (tested .before .field2 .ensures ∙ e)), tested .before .field2 .ensures) in
-    rw decoded (c .before .before .before .before .before .before .tag-stores .ensures)
+    let at-tag-stores = c .before .before .before .before .before .before in
+    let at-if2 = at-tag-stores .before .before .before .before .before in
+    let at-field2 = at-if2 .before in
+    let at-if1 = at-field2 .before in
+    let at-field = at-if1 .before in
+    let start = at-field .before .before .before .before in
+    let w = start .args .w in
+    let (short, (top, (sizes, (sixteen, ready)))) = start .pre in
+    let decoded : decodeOf w ≡ Is (tagStoreAt (opIn w) (modeOf (at-field2 .field2 .result)) w) = decode-d9 w short top
+    ∙ rw (
+      eq-eqb (bitsAt w 21 1) 1 (sym (at-field .field .ensures) ∙ at-if1 .if1 .taken),
+      ne-eqb (bitsAt w 10 2) 0 (λ e. at-if2 .if2 .taken (at-field2 .field2 .ensures ∙ e)),
+      at-field2 .field2 .ensures,
+    ) in
+    rw decoded (at-tag-stores .tag-stores .ensures)
 
 field-requires-3 : tie.Need-field-requires-3
 field-requires-3 c κs = search needs
@@ -58,35 +67,51 @@ same-length-5 c = search needs
 
 returns-2 : tie.Need-returns-2
 returns-2 c =
-    let tested = c .before .before .before .before .before .before in
-    let start = c .before .before .before .before .before .before .before .before .before .before .before .before .before .before .before in
-    let a = start .args in
-    let decoded : decodeOf (a .w) ≡ Is (ldgAt (a .w)) =
-    decode-d9 (a .w) (start .pre .0) (start .pre .1 .0)
-    ∙ rw (eq-eqb (bitsAt (a .w) 21 1) 1 (sym (tested .before .before .before .before .before .field .ensures) ∙ tested .before .before .before .before .if1 .taken), eq-eqb (bitsAt (a .w) 10 2) 0 (sym (tested .before .before .before .field2 .ensures) ∙ tested .before .before .if2 .left), eq-eqb (bitsAt (a .w) 22 2) 1 (sym (tested .before .field3 .ensures) ∙ tested .if3 .taken)) in
-    rw decoded (c .before .before .ldg .ensures (a .bytes .now))
+    let at-ldg = c .before .before in
+    let at-if3 = at-ldg .before .before .before .before in
+    let at-field3 = at-if3 .before in
+    let at-if2 = at-field3 .before in
+    let at-field2 = at-if2 .before in
+    let at-if1 = at-field2 .before in
+    let at-field = at-if1 .before in
+    let start = at-field .before .before .before .before in
+    let w = start .args .w in
+    let (short, (top, (sizes, (sixteen, ready)))) = start .pre in
+    let decoded : decodeOf w ≡ Is (ldgAt w) = decode-d9 w short top
+    ∙ rw (
+      eq-eqb (bitsAt w 21 1) 1 (sym (at-field .field .ensures) ∙ at-if1 .if1 .taken),
+      eq-eqb (bitsAt w 10 2) 0 (sym (at-field2 .field2 .ensures) ∙ at-if2 .if2 .left),
+      eq-eqb (bitsAt w 22 2) 1 (sym (at-field3 .field3 .ensures) ∙ at-if3 .if3 .taken),
+    ) in
+    rw decoded (at-ldg .ldg .ensures (start .args .bytes .now))
 
 returns-3 : tie.Need-returns-3
 returns-3 c =
-    let tested = c in
-    let start = c .before .before .before .before .before .before .before .before .before in
-    let a = start .args in
-    let decoded : decodeOf (a .w) ≡ Undefined =
-    decode-d9 (a .w) (start .pre .0) (start .pre .1 .0)
-    ∙ rw (eq-eqb (bitsAt (a .w) 21 1) 1 (sym (tested .before .before .before .before .before .field .ensures) ∙ tested .before .before .before .before .if1 .taken), eq-eqb (bitsAt (a .w) 10 2) 0 (sym (tested .before .before .before .field2 .ensures) ∙ tested .before .before .if2 .left), ne-eqb (bitsAt (a .w) 22 2) 1 (λ e. tested .if3 .left (tested .before .field3 .ensures ∙ e))) in
-    took-undefined (a .settings) (a .x .now) (a .status) (a .bytes .now) (a .tags .now) (a .history .now) (a .cursor) (decodeOf (a .w))
-    (start .pre .1 .1 .1 .1 .packed) decoded
+    let at-field3 = c .before in
+    let at-if2 = at-field3 .before in
+    let at-field2 = at-if2 .before in
+    let at-if1 = at-field2 .before in
+    let at-field = at-if1 .before in
+    let start = at-field .before .before .before .before in
+    let w = start .args .w in
+    let (short, (top, (sizes, (sixteen, ready)))) = start .pre in
+    let decoded : decodeOf w ≡ Undefined = decode-d9 w short top
+    ∙ rw (
+      eq-eqb (bitsAt w 21 1) 1 (sym (at-field .field .ensures) ∙ at-if1 .if1 .taken),
+      eq-eqb (bitsAt w 10 2) 0 (sym (at-field2 .field2 .ensures) ∙ at-if2 .if2 .left),
+      ne-eqb (bitsAt w 22 2) 1 (λ e. c .if3 .left (at-field3 .field3 .ensures ∙ e)),
+    ) in
+    took-undefined (decodeOf w) (ready .packed) decoded
 
 returns-4 : tie.Need-returns-4
 returns-4 c =
-    let tested = c in
-    let start = c .before .before .before .before .before in
-    let a = start .args in
-    let decoded : decodeOf (a .w) ≡ Undefined =
-    decode-d9 (a .w) (start .pre .0) (start .pre .1 .0)
-    ∙ rw (ne-eqb (bitsAt (a .w) 21 1) 1 (λ e. tested .if1 .left (tested .before .field .ensures ∙ e))) in
-    took-undefined (a .settings) (a .x .now) (a .status) (a .bytes .now) (a .tags .now) (a .history .now) (a .cursor) (decodeOf (a .w))
-    (start .pre .1 .1 .1 .1 .packed) decoded
+    let at-field = c .before in
+    let start = at-field .before .before .before .before in
+    let w = start .args .w in
+    let (short, (top, (sizes, (sixteen, ready)))) = start .pre in
+    let decoded : decodeOf w ≡ Undefined = decode-d9 w short top
+    ∙ rw (ne-eqb (bitsAt w 21 1) 1 (λ e. c .if1 .left (at-field .field .ensures ∙ e))) in
+    took-undefined (decodeOf w) (ready .packed) decoded
 
 pub memory-tags-spec : {M : Type 1} → statement M
 memory-tags-spec =

@@ -4,7 +4,9 @@ use Rattle.simulator.proofs.memory_words.old_tag.Statement.{statement}
 use Rattle.simulator.proofs.memory_words.old_tag.Tie as tie
 
 shared-slice-read-result : tie.Need-shared-slice-read-result
-shared-slice-read-result c = c .before .before .pre (c .before .if1 .taken)
+shared-slice-read-result c =
+    let at-if1 = c .before in
+    at-if1 .before .pre (at-if1 .if1 .taken)
 
 returns : tie.Need-returns
 returns c = rw (c .before .if1 .taken)

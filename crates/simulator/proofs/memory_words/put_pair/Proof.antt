@@ -26,9 +26,9 @@ same-length c = search needs
 
 returns : tie.Need-returns
 returns c =
-    let a = c .before .before .before .before .before .args in
-    let stored = c .before .before in
-    back-part (16 * a .first) (a .bytes .now) (stored .store-pair .last .0) (pairBytes (a .low) (a .high)) (stored .store-pair .ensures)
+    let at-store-pair = c .before .before in
+    let a = at-store-pair .before .before .before .args in
+    back-part (16 * a .first) (a .bytes .now) (at-store-pair .store-pair .last .0) (pairBytes (a .low) (a .high)) (at-store-pair .store-pair .ensures)
 
 pub put-pair-spec : {M : Type 1} → statement M
 put-pair-spec =

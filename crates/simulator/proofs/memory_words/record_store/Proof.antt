@@ -14,7 +14,9 @@ use Rattle.simulator.proofs.memory_words.record_store.Statement.{statem
 use Rattle.simulator.proofs.memory_words.record_store.Tie as tie
 
 returns : tie.Need-returns
-returns c = let a = c .before .before .before .before .args in λ settings. no-slots _ (a .history .now) (a .cursor) (c .if1 .taken)
+returns c =
+    let a = c .before .before .before .before .args in
+    λ settings. no-slots _ (a .history .now) (a .cursor) (c .if1 .taken)
 
 mul-at : tie.Need-mul-at
 mul-at c = search needs
@@ -91,8 +93,10 @@ add-low-4 c = omega (arith, c .before .before .before .shared-slice-known3 .give
 
 add-push : tie.Need-add-push
 add-push c =
-    let start = c .before .before .before .before .before .before .before .before .before .before .before .before .before in
-    omega (arith, c .before .before .before .before .shared-slice-known3 .given (c .before .before .before .before .before .before .before .before .before .before .before .before .before .args .first), status-lt (start .args .status) (start .pre .1 .1 .1 .1 .1 .packed))
+    let at-shared-slice-known3 = c .before .before .before .before in
+    let start = at-shared-slice-known3 .before .before .before .before .before .before .before .before .before in
+    let (register, (some, (few, (inside, (sixteen, ready))))) = start .pre in
+    omega (arith, at-shared-slice-known3 .shared-slice-known3 .given (start .args .first), status-lt (start .args .status) (ready .packed))
 
 push-requires : tie.Need-push-requires
 push-requires c κs = search needs
@@ -102,21 +106,29 @@ same-length c = search needs
 
 returns-2 : tie.Need-returns-2
 returns-2 c =
-    let told = c .before .before in
-    let start = c .before .before .before .before .before .before .before .before .before .before .before .before .before .before .before .before in
+    let at-push = c .before .before in
+    let at-x-or-sp = at-push .before .before in
+    let at-one-if = at-x-or-sp .before in
+    let at-old-tag = at-one-if .before in
+    let at-old-word4 = at-old-tag .before .before in
+    let at-old-word3 = at-old-word4 .before in
+    let at-old-word2 = at-old-word3 .before in
+    let at-old-word = at-old-word2 .before in
+    let start = at-old-word .before .before .before .before .before in
     let a = start .args in
+    let (register, (some, (few, (inside, (sixteen, ready))))) = start .pre in
     let words = rw (
-      told .before .before .before .one-if .ensures .0,
-      told .before .before .before .before .old-tag .ensures,
-      told .before .before .before .before .before .before .before .before .before .old-word .ensures,
-      told .before .before .before .before .before .before .before .before .old-word2 .ensures,
-      told .before .before .before .before .before .before .before .old-word3 .ensures,
-      told .before .before .before .before .before .before .old-word4 .ensures,
-      told .before .before .x-or-sp .ensures,
-    ) at (told .push .ensures) in
+      at-one-if .one-if .ensures .0,
+      at-old-tag .old-tag .ensures,
+      at-old-word .old-word .ensures,
+      at-old-word2 .old-word2 .ensures,
+      at-old-word3 .old-word3 .ensures,
+      at-old-word4 .old-word4 .ensures,
+      at-x-or-sp .x-or-sp .ensures,
+    ) at (at-push .push .ensures) in
     λ settings. words
     ∙ ap (λ (r : List ℕ). pushed r (historyOf (a .history .now) (a .cursor)))
-    (store-words settings (a .x .now) (a .status) (a .bytes .now) (a .tags .now) (a .register) (a .granules) (a .first) (a .saves) (start .pre .1 .0) (start .pre .1 .1 .1 .1 .1 .packed))
+    (store-words settings (a .x .now) (a .status) (a .bytes .now) (a .tags .now) (a .register) (a .granules) (a .first) (a .saves) some (ready .packed))
 
 pub record-store-spec : {M : Type 1} → statement M
 record-store-spec =

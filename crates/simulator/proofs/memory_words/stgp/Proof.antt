@@ -1,6 +1,6 @@
 -- `simulator::memory_words::stgp` meets its contract. Assumes nothing.
 use borrow.Author.Needs.{needs}
-use Prim.Native.Nat.{ℕ, _%_, _<_, _≤_}
+use Prim.Native.Nat.{_<_, _≤_}
 use mathlib.Core.Path.{_≡_, sym, _∙_}
 use native.Mathlib.Omega.{arith}
 use lib.ListN.{length}
@@ -8,14 +8,11 @@ use Rattle.isa.specs.declared.Form.the-variants.{Stgp}
 use Rattle.isa.specs.declared.Decoded.the-variants.{Is}
 use Rattle.isa.specs.Decoding.{stgpAt}
 use Rattle.isa.specs.Inside.DecodingBranches.{modeOf}
-use Rattle.memory.specs.Locations.{indexOf}
-use Rattle.machine.specs.Registers.{xOrSp}
-use Rattle.instructions.specs.Accesses.{addressOf}
 use Rattle.instructions.specs.Inside.Effects.{pair}
-use Rattle.instructions.proofs.Places.{address-aligned, store-inside}
+use Rattle.instructions.proofs.Places.{store-inside}
 use Rattle.instructions.proofs.Within.{writeback-le}
 use Rattle.simulator.specs.Inside.Taking.{decodedTaken, gathered, storeTaken}
-use Rattle.simulator.proofs.MemoryForms.{amount-whole, refused-nowhere, stgp-first, took-refused}
+use Rattle.simulator.proofs.MemoryForms.{refused-nowhere, stgp-first, store-aligned, took-refused}
 use Rattle.simulator.proofs.memory_words.stgp.Statement.{statement}
 use Rattle.simulator.proofs.memory_words.stgp.Tie as tie
 
@@ -57,28 +54,38 @@ wrapping-add-u64-requires c κs = search needs
 
 place-requires : tie.Need-place-requires
 place-requires c κs =
-    let start = c .before .before .before .before .before .before .before .before .before .before .before .before .before .before .before .before .before .before in
-    let a = start .args in
-    let amount = c .before .before .before .before .before .before .before .before .before .before in
-    let small : amount .before .field4 .result < 128 = rw (amount .before .field4 .ensures) (omega arith) in
-    let whole : amount .signed .result % 16 ≡ 0 = rw (amount .signed .ensures) (amount-whole 64 (amount .before .field4 .result) small (omega arith)) in
-    let aligned : c .before .before .before .address-of .result % 16 ≡ c .before .before .before .before .before .before .before .before .x-or-sp .result % 16 = rw (c .before .before .before .address-of .ensures) (address-aligned (modeOf (a .mode)) (c .before .before .before .before .before .before .before .before .x-or-sp .result) (amount .signed .result) whole) in
-    (start .pre .1 .1 .0, (omega arith, (omega arith, aligned)))
+    let at-address-of = c .before .before .before in
+    let at-x-or-sp = at-address-of .before .before .before .before .before in
+    let at-signed = at-x-or-sp .before .before in
+    let at-field4 = at-signed .before in
+    let start = at-field4 .before .before .before .before .before .before .before in
+    let (low, (high, (sizes, (sixteen, ready)))) = start .pre in
+    let small : at-field4 .field4 .result < 128 = rw (at-field4 .field4 .ensures) (omega arith) in
+    let aligned = store-aligned (modeOf (start .args .mode)) 64 (at-field4 .field4 .result) (at-x-or-sp .x-or-sp .result) small (omega arith)
+    (at-signed .signed .ensures) (at-address-of .address-of .ensures) in
+    (sizes, (omega arith, (omega arith, aligned)))
 
 enum-known-placed : tie.Need-enum-known-placed
 enum-known-placed c = search needs
 
 store-pair-requires : tie.Need-store-pair-requires
 store-pair-requires c κs =
-    let told = c .before .before .before .before .before .placed .given in
-    let found = c .before .before .before .before .before .before .before in
-    let start = c .before .before .before .before .before .before .before .before .before .before .before .before .before .before .before .before .before .before .before .before .before .before .before .before .before .before in
+    let at-placed = c .before .before .before .before .before in
+    let at-place = at-placed .before .before in
+    let at-writeback-to = at-place .before .before in
+    let at-address-of = at-writeback-to .before .before in
+    let at-x-or-sp = at-address-of .before .before .before .before .before in
+    let at-field3 = at-x-or-sp .before .before .before .before in
+    let start = at-field3 .before .before .before .before .before .before in
     let a = start .args in
-    let small : found .before .before .before .before .before .before .before .before .before .before .before .before .before .field3 .result ≤ 31 = rw (found .before .before .before .before .before .before .before .before .before .before .before .before .before .field3 .ensures) (omega arith) in
-    let register : found .before .before .writeback-to .result ≤ 32 = rw (found .before .before .writeback-to .ensures) (writeback-le (modeOf (a .mode)) (found .before .before .before .before .before .before .before .before .before .before .before .before .before .field3 .result) small) in
-    let inside = store-inside (a .settings .base) (length (a .tags .now)) (found .before .before .before .before .before .before .before .before .before .before .before .before .before .field3 .result) (found .before .before .before .before .before .before .before .before .before .x-or-sp .result) (found .before .before .before .before .address-of .result)
-    1 (told .0 .0) (start .pre .1 .1 .0) (omega arith) (sym (found .place .ensures) ∙ told .1) in
-    (register, (inside, start .pre .1 .1 .1))
+    let (low, (high, (sizes, (sixteen, ready)))) = start .pre in
+    let told = at-placed .placed .given in
+    let small : at-field3 .field3 .result ≤ 31 = rw (at-field3 .field3 .ensures) (omega arith) in
+    let register : at-writeback-to .writeback-to .result ≤ 32 =
+    rw (at-writeback-to .writeback-to .ensures) (writeback-le (modeOf (a .mode)) (at-field3 .field3 .result) small) in
+    let inside = store-inside (a .settings .base) (length (a .tags .now)) (at-field3 .field3 .result) (at-x-or-sp .x-or-sp .result)
+    (at-address-of .address-of .result) 1 (told .0 .0) sizes (omega arith) (sym (at-place .place .ensures) ∙ told .1) in
+    (register, (inside, (sixteen, ready)))
 
 enum-known-placed-2 : tie.Need-enum-known-placed-2
 enum-known-placed-2 c = search needs
@@ -94,46 +101,66 @@ same-length-3 c = search needs
 
 returns : tie.Need-returns
 returns c =
-    let stored = c .before .before .before .before .before .before in
-    let told = stored .before .before .before .before .before .before .placed .given in
-    let found = c .before .before .before .before .before .before .before .before .before .before .before .before .before .before in
-    let start = c .before .before .before .before .before .before .before .before .before .before .before .before .before .before .before .before .before .before .before .before .before .before .before .before .before .before .before .before .before .before .before .before .before in
-    let a = start .args in
+    let at-store-pair = c .before .before .before .before .before .before in
+    let at-placed = at-store-pair .before .before .before .before .before .before in
+    let at-place = at-placed .before .before in
+    let at-wrapping-add-u64 = at-place .before in
+    let at-writeback-to = at-wrapping-add-u64 .before in
+    let at-tag-of = at-writeback-to .before in
+    let at-address-of = at-tag-of .before in
+    let at-x-or-zero2 = at-address-of .before in
+    let at-x-or-zero = at-x-or-zero2 .before .before in
+    let at-x-or-sp = at-x-or-zero .before .before in
+    let at-signed = at-x-or-sp .before .before in
+    let at-field4 = at-signed .before in
+    let at-field3 = at-field4 .before in
+    let at-field2 = at-field3 .before in
+    let at-field = at-field2 .before in
+    let a = at-field .before .before .before .before .args in
+    let told = at-placed .placed .given in
     let before = gathered (a .settings) (a .x .now) (a .status) (a .bytes .now) (a .tags .now) (a .history .now) (a .cursor) in
     let mode = modeOf (a .mode) in
-    let form : Stgp mode (found .before .before .before .before .before .before .before .before .before .before .before .before .before .before .before .field .result) (found .before .before .before .before .before .before .before .before .before .before .before .before .before .before .field2 .result) (found .before .before .before .before .before .before .before .before .before .before .before .before .before .field3 .result) (found .before .before .before .before .before .before .before .before .before .before .before .signed .result) ≡ stgpAt mode (a .w) =
-    rw (found .before .before .before .before .before .before .before .before .before .before .before .signed .ensures, found .before .before .before .before .before .before .before .before .before .before .before .before .field4 .ensures, found .before .before .before .before .before .before .before .before .before .before .before .before .before .field3 .ensures, found .before .before .before .before .before .before .before .before .before .before .before .before .before .before .field2 .ensures, found .before .before .before .before .before .before .before .before .before .before .before .before .before .before .before .field .ensures) in
-    let place = rw (found .before .before .before .before .address-of .ensures, found .before .before .before .before .before .before .before .before .before .x-or-sp .ensures) at (found .place .ensures) in
-    let taken : decodedTaken (Is (Stgp mode (found .before .before .before .before .before .before .before .before .before .before .before .before .before .before .before .field .result) (found .before .before .before .before .before .before .before .before .before .before .before .before .before .before .field2 .result) (found .before .before .before .before .before .before .before .before .before .before .before .before .before .field3 .result) (found .before .before .before .before .before .before .before .before .before .before .before .signed .result))) before
-    ≡ storeTaken (found .before .before .writeback-to .result) (found .before .wrapping-add-u64 .result) (told .0 .0) 1 (found .before .before .before .tag-of .result)
-    (pair (found .before .before .before .before .before .before .before .x-or-zero .result) (found .before .before .before .before .before .x-or-zero2 .result)) before =
+    let f = Stgp mode (at-field .field .result) (at-field2 .field2 .result) (at-field3 .field3 .result) (at-signed .signed .result) in
+    let form : f ≡ stgpAt mode (a .w) =
+    rw (at-signed .signed .ensures, at-field4 .field4 .ensures, at-field3 .field3 .ensures, at-field2 .field2 .ensures, at-field .field .ensures) in
+    let place = rw (at-address-of .address-of .ensures, at-x-or-sp .x-or-sp .ensures) at (at-place .place .ensures) in
+    let taken : decodedTaken (Is f) before
+    ≡ storeTaken (at-writeback-to .writeback-to .result) (at-wrapping-add-u64 .wrapping-add-u64 .result) (told .0 .0) 1 (at-tag-of .tag-of .result)
+    (pair (at-x-or-zero .x-or-zero .result) (at-x-or-zero2 .x-or-zero2 .result)) before =
     rw (
-      found .before .before .writeback-to .ensures,
-      found .before .wrapping-add-u64 .ensures,
-      found .before .before .before .tag-of .ensures .0,
-      found .before .before .before .before .address-of .ensures,
-      found .before .before .before .before .before .before .before .x-or-zero .ensures,
-      found .before .before .before .before .before .x-or-zero2 .ensures,
-      found .before .before .before .before .before .before .before .before .before .x-or-sp .ensures,
-    ) (stgp-first before mode (found .before .before .before .before .before .before .before .before .before .before .before .before .before .before .before .field .result) (found .before .before .before .before .before .before .before .before .before .before .before .before .before .before .field2 .result) (found .before .before .before .before .before .before .before .before .before .before .before .before .before .field3 .result) (found .before .before .before .before .before .before .before .before .before .before .before .signed .result) (told .0 .0) (sym place ∙ told .1)) in
-    rw (← form, taken) (stored .store-pair .ensures)
+      at-writeback-to .writeback-to .ensures,
+      at-wrapping-add-u64 .wrapping-add-u64 .ensures,
+      at-tag-of .tag-of .ensures .0,
+      at-address-of .address-of .ensures,
+      at-x-or-zero .x-or-zero .ensures,
+      at-x-or-zero2 .x-or-zero2 .ensures,
+      at-x-or-sp .x-or-sp .ensures,
+    ) (stgp-first before mode (at-field .field .result) (at-field2 .field2 .result) (at-field3 .field3 .result) (at-signed .signed .result) (told .0 .0)
+    (sym place ∙ told .1)) in
+    rw (← form, taken) (at-store-pair .store-pair .ensures)
 
 returns-2 : tie.Need-returns-2
 returns-2 c =
-    let told = c .before .placed2 .given in
-    let found = c .before .before .before in
-    let start = c .before .before .before .before .before .before .before .before .before .before .before .before .before .before .before .before .before .before .before .before .before .before in
+    let at-placed2 = c .before in
+    let at-place = at-placed2 .before .before in
+    let at-address-of = at-place .before .before .before .before in
+    let at-x-or-sp = at-address-of .before .before .before .before .before in
+    let at-signed = at-x-or-sp .before .before in
+    let at-field4 = at-signed .before in
+    let at-field3 = at-field4 .before in
+    let at-field2 = at-field3 .before in
+    let at-field = at-field2 .before in
+    let start = at-field .before .before .before .before in
     let a = start .args in
+    let (low, (high, (sizes, (sixteen, ready)))) = start .pre in
+    let told = at-placed2 .placed2 .given in
     let before = gathered (a .settings) (a .x .now) (a .status) (a .bytes .now) (a .tags .now) (a .history .now) (a .cursor) in
     let mode = modeOf (a .mode) in
-    let form : Stgp mode (found .before .before .before .before .before .before .before .before .before .before .before .before .before .before .before .field .result) (found .before .before .before .before .before .before .before .before .before .before .before .before .before .before .field2 .result) (found .before .before .before .before .before .before .before .before .before .before .before .before .before .field3 .result) (found .before .before .before .before .before .before .before .before .before .before .before .signed .result) ≡ stgpAt mode (a .w) =
-    rw (found .before .before .before .before .before .before .before .before .before .before .before .signed .ensures, found .before .before .before .before .before .before .before .before .before .before .before .before .field4 .ensures, found .before .before .before .before .before .before .before .before .before .before .before .before .before .field3 .ensures, found .before .before .before .before .before .before .before .before .before .before .before .before .before .before .field2 .ensures, found .before .before .before .before .before .before .before .before .before .before .before .before .before .before .before .field .ensures) in
-    let place = rw (found .before .before .before .before .address-of .ensures, found .before .before .before .before .before .before .before .before .before .x-or-sp .ensures) at (found .place .ensures) in
-    let f = Stgp mode (found .before .before .before .before .before .before .before .before .before .before .before .before .before .before .before .field .result) (found .before .before .before .before .before .before .before .before .before .before .before .before .before .before .field2 .result) (found .before .before .before .before .before .before .before .before .before .before .before .before .before .field3 .result) (found .before .before .before .before .before .before .before .before .before .before .before .signed .result) in
-    rw (← form) (took-refused (a .settings) (a .x .now) (a .status) (a .bytes .now) (a .tags .now) (a .history .now) (a .cursor) (Is f) (told .0 .0)
-    (start .pre .1 .1 .1 .1 .packed)
-    (refused-nowhere f before (indexOf (a .settings .base) (addressOf mode (xOrSp (a .x .now) (found .before .before .before .before .before .before .before .before .before .before .before .before .before .field3 .result)) (found .before .before .before .before .before .before .before .before .before .before .before .signed .result))) (told .0 .0)
-    (sym place ∙ told .1)))
+    let f = Stgp mode (at-field .field .result) (at-field2 .field2 .result) (at-field3 .field3 .result) (at-signed .signed .result) in
+    let form : f ≡ stgpAt mode (a .w) =
+    rw (at-signed .signed .ensures, at-field4 .field4 .ensures, at-field3 .field3 .ensures, at-field2 .field2 .ensures, at-field .field .ensures) in
+    let place = rw (at-address-of .address-of .ensures, at-x-or-sp .x-or-sp .ensures) at (at-place .place .ensures) in
+    rw (← form) (took-refused (Is f) (ready .packed) (refused-nowhere f before _ (told .0 .0) (sym place ∙ told .1)))
 
 pub stgp-spec : {M : Type 1} → statement M
 stgp-spec =

@@ -2,7 +2,7 @@
 use borrow.Author.Needs.{needs}
 use mathlib.Core.Bool.{Bool}
 use mathlib.Core.Path.{ap, _∙_}
-use Rattle.machine.specs.State.{stateOf}
+use Rattle.machine.specs.State.{State, stateOf}
 use Rattle.history.specs.Recording.{entryFor}
 use Rattle.history.specs.Records.{wordsOf}
 use Rattle.history.specs.Ring.{pushed}
@@ -36,18 +36,18 @@ same-length-3 c = search needs
 
 returns : tie.Need-returns
 returns c =
-    let tagged = c .before .before .before .before in
-    let zeroing = c .before .before .before .before .before .before .before .before in
-    let recorded = c .before .before .before .before .before .before .before .before .before .before .before .before in
-    let start = c .before .before .before .before .before .before .before .before .before .before .before .before .before .before .before .before .before .before .before .before in
+    let at-tag-if = c .before .before .before .before in
+    let at-zero-if = at-tag-if .before .before .before .before in
+    let at-record-store = at-zero-if .before .before .before .before in
+    let start = at-record-store .before .before .before .before .before .before .before .before in
     let a = start .args in
-    let history = recorded .record-store .ensures (a .settings)
-    ∙ ap (λ (saves : Bool). pushed (wordsOf (entryFor (a .register) (a .granules) (a .first) saves
-    (stateOf (a .settings) (a .x .now) (statusIn (a .status)) (a .bytes .now) (a .tags .now)))) (historyOf (a .history .now) (a .cursor)))
+    let (register, (some, (few, (inside, (sixteen, ready))))) = start .pre in
+    let s : State = stateOf (a .settings) (a .x .now) (statusIn (a .status)) (a .bytes .now) (a .tags .now) in
+    let history = at-record-store .record-store .ensures (a .settings)
+    ∙ ap (λ (saves : Bool). pushed (wordsOf (entryFor (a .register) (a .granules) (a .first) saves s)) (historyOf (a .history .now) (a .cursor)))
     (zeroed-writes (a .zeroes)) in
-    took-store (a .settings) (a .x .now) (a .status) (a .bytes .now) (a .tags .now) (a .history .now) (a .cursor) (a .register) (a .value)
-    (a .first) (a .granules) (a .tag) (zeroedIf (a .zeroes)) (start .pre .1 .1 .1 .1 .1 .packed) (c .write .ensures) (zeroing .zero-if .ensures)
-    (tagged .tag-if .ensures) history
+    took-store (a .register) (a .value) (a .first) (a .granules) (a .tag) (zeroedIf (a .zeroes)) (ready .packed) (c .write .ensures)
+    (at-zero-if .zero-if .ensures) (at-tag-if .tag-if .ensures) history
 
 pub store-spec : {M : Type 1} → statement M
 store-spec =

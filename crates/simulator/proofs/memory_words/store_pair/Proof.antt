@@ -28,14 +28,14 @@ same-length-3 c = search needs
 
 returns : tie.Need-returns
 returns c =
-    let tagged = c .before .before .before .before in
-    let put = c .before .before .before .before .before .before .before .before in
-    let recorded = c .before .before .before .before .before .before .before .before .before .before .before .before in
-    let start = c .before .before .before .before .before .before .before .before .before .before .before .before .before .before .before .before .before .before .before .before in
+    let at-tag-if = c .before .before .before .before in
+    let at-put-pair = at-tag-if .before .before .before .before in
+    let at-record-store = at-put-pair .before .before .before .before in
+    let start = at-record-store .before .before .before .before .before .before .before .before in
     let a = start .args in
-    took-store (a .settings) (a .x .now) (a .status) (a .bytes .now) (a .tags .now) (a .history .now) (a .cursor) (a .register) (a .value)
-    (a .first) 1 (a .tag) (pair (a .low) (a .high)) (start .pre .1 .1 .1 .packed) (c .write .ensures) (put .put-pair .ensures)
-    (tagged .tag-if .ensures) (recorded .record-store .ensures (a .settings))
+    let (register, (inside, (sixteen, ready))) = start .pre in
+    took-store (a .register) (a .value) (a .first) 1 (a .tag) (pair (a .low) (a .high)) (ready .packed) (c .write .ensures)
+    (at-put-pair .put-pair .ensures) (at-tag-if .tag-if .ensures) (at-record-store .record-store .ensures (a .settings))
 
 pub store-pair-spec : {M : Type 1} → statement M
 store-pair-spec =

@@ -10,7 +10,9 @@ same-length : tie.Need-same-length
 same-length c = search needs
 
 returns : tie.Need-returns
-returns c = rw (c .before .before .before .before .if1 .taken) (c .before .before .store-tags .ensures)
+returns c =
+    let at-store-tags = c .before .before in
+    rw (at-store-tags .before .before .if1 .taken) (at-store-tags .store-tags .ensures)
 
 returns-2 : tie.Need-returns-2
 returns-2 c = search needs

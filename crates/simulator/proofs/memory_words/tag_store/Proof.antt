@@ -1,6 +1,6 @@
 -- `simulator::memory_words::tag_store` meets its contract. Assumes nothing.
 use borrow.Author.Needs.{needs}
-use Prim.Native.Nat.{ℕ, _%_, _<_, _≤_}
+use Prim.Native.Nat.{_<_, _≤_}
 use mathlib.Core.Path.{_≡_, sym, _∙_}
 use native.Mathlib.Omega.{arith}
 use lib.ListN.{length}
@@ -8,10 +8,10 @@ use Rattle.isa.specs.declared.Form.the-variants.{TagStore}
 use Rattle.isa.specs.declared.Decoded.the-variants.{Is}
 use Rattle.isa.specs.Decoding.{tagStoreAt}
 use Rattle.isa.specs.Inside.DecodingBranches.{modeOf}
-use Rattle.instructions.proofs.Places.{address-aligned, store-inside}
+use Rattle.instructions.proofs.Places.{store-inside}
 use Rattle.instructions.proofs.Within.{writeback-le}
 use Rattle.simulator.specs.Inside.Taking.{decodedTaken, gathered, storeTaken, tagStoreOp, zeroedIf}
-use Rattle.simulator.proofs.MemoryForms.{amount-whole, tag-store-first, tag-store-nowhere, took-refused}
+use Rattle.simulator.proofs.MemoryForms.{store-aligned, tag-store-first, tag-store-nowhere, took-refused}
 use Rattle.simulator.proofs.memory_words.tag_store.Statement.{statement}
 use Rattle.simulator.proofs.memory_words.tag_store.Tie as tie
 
@@ -47,28 +47,38 @@ wrapping-add-u64-requires c κs = search needs
 
 place-requires : tie.Need-place-requires
 place-requires c κs =
-    let start = c .before .before .before .before .before .before .before .before .before .before .before .before .before .before .before in
-    let a = start .args in
-    let amount = c .before .before .before .before .before .before .before .before in
-    let small : amount .before .field3 .result < 512 = rw (amount .before .field3 .ensures) (omega arith) in
-    let whole : amount .signed .result % 16 ≡ 0 = rw (amount .signed .ensures) (amount-whole 256 (amount .before .field3 .result) small (omega arith)) in
-    let aligned : c .before .before .address-of .result % 16 ≡ c .before .before .before .before .before .before .x-or-sp .result % 16 = rw (c .before .before .address-of .ensures) (address-aligned (modeOf (a .mode)) (c .before .before .before .before .before .before .x-or-sp .result) (amount .signed .result) whole) in
-    (start .pre .1 .1 .1 .1 .0, (start .pre .0, (start .pre .1 .0, aligned)))
+    let at-address-of = c .before .before in
+    let at-x-or-sp = at-address-of .before .before .before .before in
+    let at-signed = at-x-or-sp .before .before in
+    let at-field3 = at-signed .before in
+    let start = at-field3 .before .before .before .before .before .before in
+    let (some, (few, (low, (high, (sizes, (sixteen, ready)))))) = start .pre in
+    let small : at-field3 .field3 .result < 512 = rw (at-field3 .field3 .ensures) (omega arith) in
+    let aligned = store-aligned (modeOf (start .args .mode)) 256 (at-field3 .field3 .result) (at-x-or-sp .x-or-sp .result) small (omega arith)
+    (at-signed .signed .ensures) (at-address-of .address-of .ensures) in
+    (sizes, (some, (few, aligned)))
 
 enum-known-placed : tie.Need-enum-known-placed
 enum-known-placed c = search needs
 
 store-requires : tie.Need-store-requires
 store-requires c κs =
-    let told = c .before .before .before .before .before .placed .given in
-    let found = c .before .before .before .before .before .before .before in
-    let start = c .before .before .before .before .before .before .before .before .before .before .before .before .before .before .before .before .before .before .before .before .before .before .before in
+    let at-placed = c .before .before .before .before .before in
+    let at-place = at-placed .before .before in
+    let at-writeback-to = at-place .before .before in
+    let at-address-of = at-writeback-to .before in
+    let at-x-or-sp = at-address-of .before .before .before .before in
+    let at-field2 = at-x-or-sp .before .before .before .before in
+    let start = at-field2 .before .before .before .before .before in
     let a = start .args in
-    let small : found .before .before .before .before .before .before .before .before .before .before .before .field2 .result ≤ 31 = rw (found .before .before .before .before .before .before .before .before .before .before .before .field2 .ensures) (omega arith) in
-    let register : found .before .before .writeback-to .result ≤ 32 = rw (found .before .before .writeback-to .ensures) (writeback-le (modeOf (a .mode)) (found .before .before .before .before .before .before .before .before .before .before .before .field2 .result) small) in
-    let inside = store-inside (a .settings .base) (length (a .tags .now)) (found .before .before .before .before .before .before .before .before .before .before .before .field2 .result) (found .before .before .before .before .before .before .before .x-or-sp .result) (found .before .before .before .address-of .result)
-    (a .granules) (told .0 .0) (start .pre .1 .1 .1 .1 .0) (start .pre .0) (sym (found .place .ensures) ∙ told .1) in
-    (register, (start .pre .0, (start .pre .1 .0, (inside, start .pre .1 .1 .1 .1 .1))))
+    let (some, (few, (low, (high, (sizes, (sixteen, ready)))))) = start .pre in
+    let told = at-placed .placed .given in
+    let small : at-field2 .field2 .result ≤ 31 = rw (at-field2 .field2 .ensures) (omega arith) in
+    let register : at-writeback-to .writeback-to .result ≤ 32 =
+    rw (at-writeback-to .writeback-to .ensures) (writeback-le (modeOf (a .mode)) (at-field2 .field2 .result) small) in
+    let inside = store-inside (a .settings .base) (length (a .tags .now)) (at-field2 .field2 .result) (at-x-or-sp .x-or-sp .result)
+    (at-address-of .address-of .result) (a .granules) (told .0 .0) sizes some (sym (at-place .place .ensures) ∙ told .1) in
+    (register, (some, (few, (inside, (sixteen, ready)))))
 
 enum-known-placed-2 : tie.Need-enum-known-placed-2
 enum-known-placed-2 c = search needs
@@ -84,40 +94,67 @@ same-length-3 c = search needs
 
 returns : tie.Need-returns
 returns c =
-    let stored = c .before .before .before .before .before .before in
-    let told = stored .before .before .before .before .before .before .placed .given in
-    let found = c .before .before .before .before .before .before .before .before .before .before .before .before .before .before in
-    let start = c .before .before .before .before .before .before .before .before .before .before .before .before .before .before .before .before .before .before .before .before .before .before .before .before .before .before .before .before .before .before in
+    let at-store = c .before .before .before .before .before .before in
+    let at-placed = at-store .before .before .before .before .before .before in
+    let at-place = at-placed .before .before in
+    let at-wrapping-add-u64 = at-place .before in
+    let at-writeback-to = at-wrapping-add-u64 .before in
+    let at-address-of = at-writeback-to .before in
+    let at-tag-of = at-address-of .before in
+    let at-x-or-sp2 = at-tag-of .before in
+    let at-x-or-sp = at-x-or-sp2 .before .before in
+    let at-signed = at-x-or-sp .before .before in
+    let at-field3 = at-signed .before in
+    let at-field2 = at-field3 .before in
+    let at-field = at-field2 .before in
+    let start = at-field .before .before .before .before in
     let a = start .args in
+    let (some, (few, (low, (high, (sizes, (sixteen, ready)))))) = start .pre in
+    let told = at-placed .placed .given in
     let before = gathered (a .settings) (a .x .now) (a .status) (a .bytes .now) (a .tags .now) (a .history .now) (a .cursor) in
     let mode = modeOf (a .mode) in
     let op = tagStoreOp (a .granules) (a .zeroes) in
-    let form : TagStore op mode (found .before .before .before .before .before .before .before .before .before .before .before .before .field .result) (found .before .before .before .before .before .before .before .before .before .before .before .field2 .result) (found .before .before .before .before .before .before .before .before .before .signed .result) ≡ tagStoreAt op mode (a .w) =
-    rw (found .before .before .before .before .before .before .before .before .before .signed .ensures, found .before .before .before .before .before .before .before .before .before .before .field3 .ensures, found .before .before .before .before .before .before .before .before .before .before .before .field2 .ensures, found .before .before .before .before .before .before .before .before .before .before .before .before .field .ensures) in
-    let place = rw (found .before .before .before .address-of .ensures, found .before .before .before .before .before .before .before .x-or-sp .ensures) at (found .place .ensures) in
-    let taken : decodedTaken (Is (TagStore op mode (found .before .before .before .before .before .before .before .before .before .before .before .before .field .result) (found .before .before .before .before .before .before .before .before .before .before .before .field2 .result) (found .before .before .before .before .before .before .before .before .before .signed .result))) before
-    ≡ storeTaken (found .before .before .writeback-to .result) (found .before .wrapping-add-u64 .result) (told .0 .0) (a .granules) (found .before .before .before .before .tag-of .result) (zeroedIf (a .zeroes)) before =
-    rw (found .before .before .writeback-to .ensures, found .before .wrapping-add-u64 .ensures, found .before .before .before .before .tag-of .ensures .0, found .before .before .before .before .before .x-or-sp2 .ensures, found .before .before .before .before .before .before .before .x-or-sp .ensures)
-    (tag-store-first before (a .granules) (a .zeroes) (start .pre .0) (start .pre .1 .0) mode (found .before .before .before .before .before .before .before .before .before .before .before .before .field .result) (found .before .before .before .before .before .before .before .before .before .before .before .field2 .result)
-    (found .before .before .before .before .before .before .before .before .before .signed .result) (told .0 .0) (sym place ∙ told .1)) in
-    rw (← form, taken) (stored .store .ensures)
+    let f = TagStore op mode (at-field .field .result) (at-field2 .field2 .result) (at-signed .signed .result) in
+    let form : f ≡ tagStoreAt op mode (a .w) =
+    rw (at-signed .signed .ensures, at-field3 .field3 .ensures, at-field2 .field2 .ensures, at-field .field .ensures) in
+    let place = rw (at-address-of .address-of .ensures, at-x-or-sp .x-or-sp .ensures) at (at-place .place .ensures) in
+    let taken : decodedTaken (Is f) before
+    ≡ storeTaken (at-writeback-to .writeback-to .result) (at-wrapping-add-u64 .wrapping-add-u64 .result) (told .0 .0) (a .granules) (at-tag-of .tag-of .result)
+    (zeroedIf (a .zeroes)) before =
+    rw (
+      at-writeback-to .writeback-to .ensures,
+      at-wrapping-add-u64 .wrapping-add-u64 .ensures,
+      at-tag-of .tag-of .ensures .0,
+      at-x-or-sp2 .x-or-sp2 .ensures,
+      at-x-or-sp .x-or-sp .ensures,
+    ) (tag-store-first before (a .granules) (a .zeroes) some few mode (at-field .field .result) (at-field2 .field2 .result) (at-signed .signed .result) (told .0 .0)
+    (sym place ∙ told .1)) in
+    rw (← form, taken) (at-store .store .ensures)
 
 returns-2 : tie.Need-returns-2
 returns-2 c =
-    let told = c .before .placed2 .given in
-    let found = c .before .before .before in
-    let start = c .before .before .before .before .before .before .before .before .before .before .before .before .before .before .before .before .before .before .before in
+    let at-placed2 = c .before in
+    let at-place = at-placed2 .before .before in
+    let at-address-of = at-place .before .before .before in
+    let at-x-or-sp = at-address-of .before .before .before .before in
+    let at-signed = at-x-or-sp .before .before in
+    let at-field3 = at-signed .before in
+    let at-field2 = at-field3 .before in
+    let at-field = at-field2 .before in
+    let start = at-field .before .before .before .before in
     let a = start .args in
+    let (some, (few, (low, (high, (sizes, (sixteen, ready)))))) = start .pre in
+    let told = at-placed2 .placed2 .given in
     let before = gathered (a .settings) (a .x .now) (a .status) (a .bytes .now) (a .tags .now) (a .history .now) (a .cursor) in
     let mode = modeOf (a .mode) in
     let op = tagStoreOp (a .granules) (a .zeroes) in
-    let form : TagStore op mode (found .before .before .before .before .before .before .before .before .before .before .before .before .field .result) (found .before .before .before .before .before .before .before .before .before .before .before .field2 .result) (found .before .before .before .before .before .before .before .before .before .signed .result) ≡ tagStoreAt op mode (a .w) =
-    rw (found .before .before .before .before .before .before .before .before .before .signed .ensures, found .before .before .before .before .before .before .before .before .before .before .field3 .ensures, found .before .before .before .before .before .before .before .before .before .before .before .field2 .ensures, found .before .before .before .before .before .before .before .before .before .before .before .before .field .ensures) in
-    let place = rw (found .before .before .before .address-of .ensures, found .before .before .before .before .before .before .before .x-or-sp .ensures) at (found .place .ensures) in
-    rw (← form) (took-refused (a .settings) (a .x .now) (a .status) (a .bytes .now) (a .tags .now) (a .history .now) (a .cursor)
-    (Is (TagStore op mode (found .before .before .before .before .before .before .before .before .before .before .before .before .field .result) (found .before .before .before .before .before .before .before .before .before .before .before .field2 .result) (found .before .before .before .before .before .before .before .before .before .signed .result))) (told .0 .0) (start .pre .1 .1 .1 .1 .1 .1 .packed)
-    (tag-store-nowhere before (a .granules) (a .zeroes) (start .pre .0) (start .pre .1 .0) mode (found .before .before .before .before .before .before .before .before .before .before .before .before .field .result) (found .before .before .before .before .before .before .before .before .before .before .before .field2 .result)
-    (found .before .before .before .before .before .before .before .before .before .signed .result) (told .0 .0) (sym place ∙ told .1)))
+    let f = TagStore op mode (at-field .field .result) (at-field2 .field2 .result) (at-signed .signed .result) in
+    let form : f ≡ tagStoreAt op mode (a .w) =
+    rw (at-signed .signed .ensures, at-field3 .field3 .ensures, at-field2 .field2 .ensures, at-field .field .ensures) in
+    let place = rw (at-address-of .address-of .ensures, at-x-or-sp .x-or-sp .ensures) at (at-place .place .ensures) in
+    let taken = tag-store-nowhere before (a .granules) (a .zeroes) some few mode (at-field .field .result) (at-field2 .field2 .result)
+    (at-signed .signed .result) (told .0 .0) (sym place ∙ told .1) in
+    rw (← form) (took-refused (Is f) (ready .packed) taken)
 
 pub tag-store-spec : {M : Type 1} → statement M
 tag-store-spec =

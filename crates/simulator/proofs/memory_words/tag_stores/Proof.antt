@@ -29,10 +29,17 @@ same-length-3 c = search needs
 
 returns : tie.Need-returns
 returns c =
-    let tested = c .before .before .before .before .before .before .before .before .before .before .before in
-    let w = c .before .before .before .before .before .before .before .before .before .before .before .before .before .before .before .before .before .before .args .w in
-    let op : opIn w ≡ tagStoreOp 2 true = rw (eq-eqb (bitsAt w 23 1) 1 (sym (tested .before .before .before .field .ensures) ∙ tested .before .before .if1 .taken), eq-eqb (bitsAt w 22 1) 1 (sym (tested .before .field2 .ensures) ∙ tested .if2 .taken)) in
-    rw op (c .before .before .before .before .before .before .tag-store .ensures)
+    let at-tag-store = c .before .before .before .before .before .before in
+    let at-if2 = at-tag-store .before .before .before .before .before in
+    let at-field2 = at-if2 .before in
+    let at-if1 = at-field2 .before in
+    let at-field = at-if1 .before in
+    let w = at-field .before .before .before .before .args .w in
+    let op : opIn w ≡ tagStoreOp 2 true = rw (
+      eq-eqb (bitsAt w 23 1) 1 (sym (at-field .field .ensures) ∙ at-if1 .if1 .taken),
+      eq-eqb (bitsAt w 22 1) 1 (sym (at-field2 .field2 .ensures) ∙ at-if2 .if2 .taken),
+    ) in
+    rw op (at-tag-store .tag-store .ensures)
 
 tag-store-requires-2 : tie.Need-tag-store-requires-2
 tag-store-requires-2 c κs = (omega arith, (omega arith, c .before .before .before .before .before .before .before .before .before .before .before .pre))
@@ -48,10 +55,17 @@ same-length-6 c = search needs
 
 returns-2 : tie.Need-returns-2
 returns-2 c =
-    let tested = c .before .before .before .before .before .before .before .before .before .before .before in
-    let w = c .before .before .before .before .before .before .before .before .before .before .before .before .before .before .before .before .before .before .args .w in
-    let op : opIn w ≡ tagStoreOp 2 false = rw (eq-eqb (bitsAt w 23 1) 1 (sym (tested .before .before .before .field .ensures) ∙ tested .before .before .if1 .taken), ne-eqb (bitsAt w 22 1) 1 (λ e. tested .if2 .left (tested .before .field2 .ensures ∙ e))) in
-    rw op (c .before .before .before .before .before .before .tag-store2 .ensures)
+    let at-tag-store2 = c .before .before .before .before .before .before in
+    let at-if2 = at-tag-store2 .before .before .before .before .before in
+    let at-field2 = at-if2 .before in
+    let at-if1 = at-field2 .before in
+    let at-field = at-if1 .before in
+    let w = at-field .before .before .before .before .args .w in
+    let op : opIn w ≡ tagStoreOp 2 false = rw (
+      eq-eqb (bitsAt w 23 1) 1 (sym (at-field .field .ensures) ∙ at-if1 .if1 .taken),
+      ne-eqb (bitsAt w 22 1) 1 (λ e. at-if2 .if2 .left (at-field2 .field2 .ensures ∙ e)),
+    ) in
+    rw op (at-tag-store2 .tag-store2 .ensures)
 
 field-requires-3 : tie.Need-field-requires-3
 field-requires-3 c κs = search needs
@@ -70,10 +84,17 @@ same-length-9 c = search needs
 
 returns-3 : tie.Need-returns-3
 returns-3 c =
-    let tested = c .before .before .before .before .before .before .before .before .before .before .before in
-    let w = c .before .before .before .before .before .before .before .before .before .before .before .before .before .before .before .before .before .before .args .w in
-    let op : opIn w ≡ tagStoreOp 1 true = rw (ne-eqb (bitsAt w 23 1) 1 (λ e. tested .before .before .if1 .left (tested .before .before .before .field .ensures ∙ e)), eq-eqb (bitsAt w 22 1) 1 (sym (tested .before .field3 .ensures) ∙ tested .if3 .taken)) in
-    rw op (c .before .before .before .before .before .before .tag-store3 .ensures)
+    let at-tag-store3 = c .before .before .before .before .before .before in
+    let at-if3 = at-tag-store3 .before .before .before .before .before in
+    let at-field3 = at-if3 .before in
+    let at-if1 = at-field3 .before in
+    let at-field = at-if1 .before in
+    let w = at-field .before .before .before .before .args .w in
+    let op : opIn w ≡ tagStoreOp 1 true = rw (
+      ne-eqb (bitsAt w 23 1) 1 (λ e. at-if1 .if1 .left (at-field .field .ensures ∙ e)),
+      eq-eqb (bitsAt w 22 1) 1 (sym (at-field3 .field3 .ensures) ∙ at-if3 .if3 .taken),
+    ) in
+    rw op (at-tag-store3 .tag-store3 .ensures)
 
 tag-store-requires-4 : tie.Need-tag-store-requires-4
 tag-store-requires-4 c κs = (omega arith, (omega arith, c .before .before .before .before .before .before .before .before .before .before .before .pre))
@@ -89,10 +110,17 @@ same-length-12 c = search needs
 
 returns-4 : tie.Need-returns-4
 returns-4 c =
-    let tested = c .before .before .before .before .before .before .before .before .before .before .before in
-    let w = c .before .before .before .before .before .before .before .before .before .before .before .before .before .before .before .before .before .before .args .w in
-    let op : opIn w ≡ tagStoreOp 1 false = rw (ne-eqb (bitsAt w 23 1) 1 (λ e. tested .before .before .if1 .left (tested .before .before .before .field .ensures ∙ e)), ne-eqb (bitsAt w 22 1) 1 (λ e. tested .if3 .left (tested .before .field3 .ensures ∙ e))) in
-    rw op (c .before .before .before .before .before .before .tag-store4 .ensures)
+    let at-tag-store4 = c .before .before .before .before .before .before in
+    let at-if3 = at-tag-store4 .before .before .before .before .before in
+    let at-field3 = at-if3 .before in
+    let at-if1 = at-field3 .before in
+    let at-field = at-if1 .before in
+    let w = at-field .before .before .before .before .args .w in
+    let op : opIn w ≡ tagStoreOp 1 false = rw (
+      ne-eqb (bitsAt w 23 1) 1 (λ e. at-if1 .if1 .left (at-field .field .ensures ∙ e)),
+      ne-eqb (bitsAt w 22 1) 1 (λ e. at-if3 .if3 .left (at-field3 .field3 .ensures ∙ e)),
+    ) in
+    rw op (at-tag-store4 .tag-store4 .ensures)
 
 pub tag-stores-spec : {M : Type 1} → statement M
 tag-stores-spec =

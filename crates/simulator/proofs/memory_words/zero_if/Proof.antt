@@ -26,9 +26,10 @@ same-length c = search needs
 
 returns : tie.Need-returns
 returns c =
-    let zeroed = c .before .before in
-    let a = c .before .before .before .before .before .before .args in
-    rw (zeroed .before .before .if1 .taken) (back-part (16 * a .first) (a .bytes .now) (zeroed .zero .last .0) (zeroBytes (a .granules)) (zeroed .zero .ensures))
+    let at-zero = c .before .before in
+    let at-if1 = at-zero .before .before in
+    let a = at-if1 .before .before .args in
+    rw (at-if1 .if1 .taken) (back-part (16 * a .first) (a .bytes .now) (at-zero .zero .last .0) (zeroBytes (a .granules)) (at-zero .zero .ensures))
 
 returns-2 : tie.Need-returns-2
 returns-2 c = search needs
