@@ -111,17 +111,17 @@ module _ (f : Form) (s : Simulation) where
 
 -- a word that is refused changes nothing
 module _ {settings : Settings} {x : List ℕ} {status : ℕ} {bytes tags words : List ℕ} {cursor : Cursor} where
-  pub took-refused : {code : Code} (d : Decoded) → IsStatus status
+  pub took-refusal : {code : Code} (d : Decoded) → IsStatus status
       → decodedTaken d (gathered settings x status bytes tags words cursor) ≡ refused code
       → Took (record { code = code; status = status; cursor = cursor }) (gathered settings x status bytes tags words cursor)
       (decodedTaken d (gathered settings x status bytes tags words cursor)) (λ status cursor. gathered settings x status bytes tags words cursor)
-  took-refused d packed e = record { same = rw e; packed = packed }
+  took-refusal d packed e = record { same = rw e; packed = packed }
 
   pub took-undefined : (d : Decoded) → IsStatus status → d ≡ NoForm
       → Took (record { code = Undefined; status = status; cursor = cursor }) (gathered settings x status bytes tags words cursor)
       (decodedTaken d (gathered settings x status bytes tags words cursor)) (λ status cursor. gathered settings x status bytes tags words cursor)
   unfolding decodedTaken
-  took-undefined d packed e = took-refused d packed (rw e)
+  took-undefined d packed e = took-refusal d packed (rw e)
 
 -- the operation has its granules and its data
 

@@ -12,7 +12,7 @@ use Rattle.instructions.proofs.Places.{load-inside}
 use Rattle.instructions.proofs.Within.{or-none-le}
 use Rattle.simulator.specs.Simulation.{Simulation}
 use Rattle.simulator.specs.Inside.Taking.{decodedTaken, gathered, registerTaken}
-use Rattle.simulator.proofs.MemoryForms.{ldg-first, refused-nowhere, took-refused}
+use Rattle.simulator.proofs.MemoryForms.{ldg-first, refused-nowhere, took-refusal}
 use Rattle.simulator.proofs.memory_words.ldg.Statement.{statement}
 use Rattle.simulator.proofs.memory_words.ldg.Tie as tie
 
@@ -118,7 +118,7 @@ returns-2 c =
     let form : f ≡ ldgAt (a .w) = rw (at-signed .signed .ensures, at-field3 .field3 .ensures, at-field2 .field2 .ensures, at-field .field .ensures) in
     let place = rw (at-x-or-sp .x-or-sp .ensures) at (at-place-load .place-load .ensures) in
     let before : List ℕ → Simulation = λ bytes. gathered (a .settings) (a .x .now) (a .status) bytes (a .tags .now) (a .history .now) (a .cursor) in
-    λ bytes. rw (← form) (took-refused (Is f) (ready .packed) (refused-nowhere f (before bytes) _ (told .0 .0) (sym place ∙ told .1)))
+    λ bytes. rw (← form) (took-refusal (Is f) (ready .packed) (refused-nowhere f (before bytes) _ (told .0 .0) (sym place ∙ told .1)))
 
 pub ldg-spec : {M : Type 1} → statement M
 ldg-spec =

@@ -12,7 +12,7 @@ use Rattle.instructions.specs.Inside.Effects.{pair}
 use Rattle.instructions.proofs.Places.{store-inside}
 use Rattle.instructions.proofs.Within.{writeback-le}
 use Rattle.simulator.specs.Inside.Taking.{decodedTaken, gathered, storeTaken}
-use Rattle.simulator.proofs.MemoryForms.{refused-nowhere, stgp-first, store-aligned, took-refused}
+use Rattle.simulator.proofs.MemoryForms.{refused-nowhere, stgp-first, store-aligned, took-refusal}
 use Rattle.simulator.proofs.memory_words.stgp.Statement.{statement}
 use Rattle.simulator.proofs.memory_words.stgp.Tie as tie
 
@@ -160,7 +160,7 @@ returns-2 c =
     let form : f ≡ stgpAt mode (a .w) =
     rw (at-signed .signed .ensures, at-field4 .field4 .ensures, at-field3 .field3 .ensures, at-field2 .field2 .ensures, at-field .field .ensures) in
     let place = rw (at-address-of .address-of .ensures, at-x-or-sp .x-or-sp .ensures) at (at-place .place .ensures) in
-    rw (← form) (took-refused (Is f) (ready .packed) (refused-nowhere f before _ (told .0 .0) (sym place ∙ told .1)))
+    rw (← form) (took-refusal (Is f) (ready .packed) (refused-nowhere f before _ (told .0 .0) (sym place ∙ told .1)))
 
 pub stgp-spec : {M : Type 1} → statement M
 stgp-spec =

@@ -11,7 +11,7 @@ use Rattle.isa.specs.Inside.DecodingBranches.{modeOf}
 use Rattle.instructions.proofs.Places.{store-inside}
 use Rattle.instructions.proofs.Within.{writeback-le}
 use Rattle.simulator.specs.Inside.Taking.{decodedTaken, gathered, storeTaken, tagStoreOp, zeroedIf}
-use Rattle.simulator.proofs.MemoryForms.{store-aligned, tag-store-first, tag-store-nowhere, took-refused}
+use Rattle.simulator.proofs.MemoryForms.{store-aligned, tag-store-first, tag-store-nowhere, took-refusal}
 use Rattle.simulator.proofs.memory_words.tag_store.Statement.{statement}
 use Rattle.simulator.proofs.memory_words.tag_store.Tie as tie
 
@@ -154,7 +154,7 @@ returns-2 c =
     let place = rw (at-address-of .address-of .ensures, at-x-or-sp .x-or-sp .ensures) at (at-place .place .ensures) in
     let taken = tag-store-nowhere before (a .granules) (a .zeroes) some few mode (at-field .field .result) (at-field2 .field2 .result)
     (at-signed .signed .result) (told .0 .0) (sym place ∙ told .1) in
-    rw (← form) (took-refused (Is f) (ready .packed) taken)
+    rw (← form) (took-refusal (Is f) (ready .packed) taken)
 
 pub tag-store-spec : {M : Type 1} → statement M
 tag-store-spec =
