@@ -101,7 +101,7 @@ fn list_code(calls: &[usize], words: usize, codes: usize, counts: usize) -> Play
     PlayCode::Done
 }
 
-// A run of one word for a step: its count is 0, done or not.
+// The count of a call: a step is a run of one word that counts 0, done or not.
 fn count_of(number: usize, count: usize) -> usize
     ensures { λ r. ⌜ r ≡ cond (eqb number 1) 0 count ⌝ }
 {
