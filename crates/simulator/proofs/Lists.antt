@@ -14,7 +14,7 @@ use Rattle.machine.specs.Codes.{codeNumber}
 use Rattle.simulator.specs.declared.playing.PlayCode.{PlayCode}
 use Rattle.simulator.specs.declared.playing.PlayCode.the-variants.{Done, NoRoom, NoWords}
 use Rattle.simulator.specs.Calls.{Ended, Returned, answered, returned, stepCall, runCall, inOrder, call, calls}
-use Rattle.simulator.specs.Playing.{Played, allTaken, callOf, codesOf, countsOf, listed, playCode, playNumber, playOf, played, wordsTaken}
+use Rattle.simulator.specs.Playing.{allTaken, callOf, codesOf, countsOf, listed, playCode, playNumber, playOf, played, wordsTaken}
 use Rattle.simulator.specs.Simulation.{Simulation, wellFormed}
 use Rattle.simulator.specs.Steps.{stepOf, runOf, simulator}
 use Rattle.simulator.specs.Inside.Playing.{Lent, Wrote}

@@ -101,7 +101,7 @@ fn list_code(calls: &[usize], words: usize, codes: usize, counts: usize) -> Play
     PlayCode::Done
 }
 
-// A run of one word for a step: its count is 0, done or not.
+// The count of a call: a step is a run of one word that counts 0, done or not.
 fn count_of(number: usize, count: usize) -> usize
     ensures { λ r. ⌜ r ≡ cond (eqb number 1) 0 count ⌝ }
 {
@@ -219,15 +219,15 @@ fn refuse_all(calls: usize, codes: &mut [u32], counts: &mut [usize])
     ensures { λ _. ⌜ now (codes .exit) ≡ sets (now (codes .entry)) 0 (replicate calls (codeNumber Setup)) ⌝ }
     ensures { λ _. ⌜ now (counts .exit) ≡ sets (now (counts .entry)) 0 (replicate calls 0) ⌝ }
 {
-    let mut i = 0;
-    while i < calls {
-        codes[i] = Code::Setup.number();
-        counts[i] = 0;
-        i += 1;
+    let mut place = 0;
+    while place < calls {
+        codes[place] = Code::Setup.number();
+        counts[place] = 0;
+        place += 1;
     }
 }
 
-// Plays a list that has its words and places. Every call checks the setup, and none changes whether it keeps the rules: so it is checked once.
+// Plays a list that has its words and places. The setup is checked once: no call changes whether it keeps the rules.
 fn play_list(
     machine: Machine,
     calls: &[usize],
@@ -244,30 +244,30 @@ fn play_list(
         let after = simulation r (now (bytes .exit)) (now (tags .exit)) (now (history .exit)) in
         ⌜ Wrote before (now (calls .entry)) (now (words .entry)) (now (codes .entry)) (now (counts .entry)) (now (codes .exit)) (now (counts .exit)) after ⌝ }
 {
-    if !machine::setup_ok(machine, bytes.len(), tags.len(), history.len()) {
-        refuse_all(calls.len(), codes, counts);
-        return machine;
+    if machine::setup_ok(machine, bytes.len(), tags.len(), history.len()) {
+        let settings = machine.settings;
+        let status = machine.registers.status;
+        let cursor = machine.cursor;
+        let mut x = machine.registers.x;
+        let packed = status_words::pack(status);
+        let end = play_all(
+            &mut x,
+            settings,
+            packed,
+            cursor,
+            calls,
+            words,
+            bytes,
+            tags,
+            history,
+            codes,
+            counts,
+        );
+        let moved = end.cursor;
+        return machine_of(settings, x, end.status, moved);
     }
-    let settings = machine.settings;
-    let status = machine.registers.status;
-    let cursor = machine.cursor;
-    let mut x = machine.registers.x;
-    let packed = status_words::pack(status);
-    let end = play_all(
-        &mut x,
-        settings,
-        packed,
-        cursor,
-        calls,
-        words,
-        bytes,
-        tags,
-        history,
-        codes,
-        counts,
-    );
-    let moved = end.cursor;
-    machine_of(settings, x, end.status, moved)
+    refuse_all(calls.len(), codes, counts);
+    machine
 }
 
 // Shows of a seed what its type says, which the prover does not read off a struct's field.

@@ -16,8 +16,8 @@ abbrev Inv-loop : tie.InvT-loop
 Inv-loop x₀ settings status list words bytes₀ tags₀ history₀ codes₀ counts₀ reached₀ moved₀ at₀ i₀ x bytes tags history codes counts reached moved at i =
     (length bytes ≡ length bytes₀) × (length tags ≡ length tags₀) × (length history ≡ length history₀)
     × (length codes ≡ length codes₀) × (length counts ≡ length counts₀)
-    × IsStatus reached
     × Reached list words (gathered settings x₀ reached₀ bytes₀ tags₀ history₀ moved₀) codes₀ counts₀ i at (gathered settings x reached bytes tags history moved) codes counts
+    × IsStatus reached
 
 abbrev μ-loop : tie.MeasureT-loop
 μ-loop x₀ settings status list words bytes₀ tags₀ history₀ codes₀ counts₀ reached₀ moved₀ at₀ i₀ x bytes tags history codes counts reached moved at i =
@@ -33,7 +33,7 @@ room c =
 loop-holds : tie.Need-loop-holds Inv-loop μ-loop
 loop-holds c =
     let start = c .before .before .before .before .before .before .before in
-    (refl, refl, refl, refl, refl, start .pre .1 .0, at-start _ _ _ _ _ (start .pre .0) (start .pre .1 .1 .words))
+    (refl, refl, refl, refl, refl, at-start _ _ _ _ _ (start .pre .0) (start .pre .1 .1 .words), start .pre .1 .0)
 
 mul-number : tie.Need-mul-number Inv-loop μ-loop
 mul-number c = search needs
@@ -58,8 +58,8 @@ make-call-requires c κs =
     let test = c .before .before .before .before .before .before in
     let loop = test .before in
     let inv = loop .loop .inv in
-    let enough = has-words _ _ _ _ _ _ _ _ _ _ (inv .6) (test .loop-test .taken) in
-    (inv .6 .formed, (inv .5, rw (lent-part (loop .loop .at) _) enough))
+    let enough = has-words _ _ _ _ _ _ _ _ _ _ (inv .5) (test .loop-test .taken) in
+    (inv .5 .formed, (inv .6, rw (lent-part (loop .loop .at) _) enough))
 
 number-requires : tie.Need-number-requires Inv-loop μ-loop
 number-requires c κs = search needs
@@ -85,7 +85,7 @@ add-at c =
     let loop = test .before in
     let start = loop .before .before .before .before .before .before .before .before in
     let here = taken-on (start .args .calls .now) (loop .loop .i) (test .loop-test .taken) in
-    omega (arith, c .words-taken .ensures, start .good, loop .loop .inv .6 .enough, here)
+    omega (arith, c .words-taken .ensures, start .good, loop .loop .inv .5 .enough, here)
 
 add-i : tie.Need-add-i Inv-loop μ-loop
 add-i c = omega (arith, mul-number (c .before .before .before .before .before .before .before .before .before .before .before .before .before .before .before .before))
@@ -101,14 +101,14 @@ loop-again c =
     let inv = loop .loop .inv in
     let kept = made .make-call .kept in
     let call = rw (lent-part (loop .loop .at) _) at (made .make-call .ensures .same) in
-    let on = one-on _ _ _ _ _ _ _ _ _ _ (inv .6) (test .loop-test .taken) _ call in (
+    let on = one-on _ _ _ _ _ _ _ _ _ _ (inv .5) (test .loop-test .taken) _ call in (
       kept .1 .1 .1 .1 .1 .1 .0 ∙ inv .0,
       kept .1 .1 .1 .1 .1 .1 .1 .0 ∙ inv .1,
       kept .1 .1 .1 .1 .1 .1 .1 .1 .0 ∙ inv .2,
       simp length-set (inv .3),
       simp length-set (inv .4),
-      made .make-call .ensures .packed,
       rw (c .words-taken .ensures, c .before .number .ensures) on,
+      made .make-call .ensures .packed,
     )
 
 same-length : tie.Need-same-length Inv-loop μ-loop
@@ -127,7 +127,7 @@ same-length-5 : tie.Need-same-length-5 Inv-loop μ-loop
 same-length-5 c = search needs
 
 returns : tie.Need-returns Inv-loop μ-loop
-returns c = at-end _ _ _ _ _ _ _ _ _ _ (c .before .loop .inv .6) (c .loop-test .left)
+returns c = at-end _ _ _ _ _ _ _ _ _ _ (c .before .loop .inv .5) (c .loop-test .left)
 
 pub play-all-spec : {M : Type 1} → statement M
 play-all-spec =

@@ -13,13 +13,13 @@ use Rattle.simulator.proofs.playing.refuse_all.Statement.{statement}
 use Rattle.simulator.proofs.playing.refuse_all.Tie as tie
 
 abbrev Inv-loop : tie.InvT-loop
-Inv-loop calls codes₀ counts₀ i₀ codes counts i =
-    (length codes ≡ length codes₀) × (length counts ≡ length counts₀) × (i ≤ calls)
-    × (sets codes i (replicate (calls - i) (codeNumber Setup)) ≡ sets codes₀ 0 (replicate calls (codeNumber Setup)))
-    × (sets counts i (replicate (calls - i) 0) ≡ sets counts₀ 0 (replicate calls 0))
+Inv-loop calls codes₀ counts₀ place₀ codes counts place =
+    (length codes ≡ length codes₀) × (length counts ≡ length counts₀) × (place ≤ calls)
+    × (sets codes place (replicate (calls - place) (codeNumber Setup)) ≡ sets codes₀ 0 (replicate calls (codeNumber Setup)))
+    × (sets counts place (replicate (calls - place) 0) ≡ sets counts₀ 0 (replicate calls 0))
 
 abbrev μ-loop : tie.MeasureT-loop
-μ-loop calls codes₀ counts₀ i₀ codes counts i = calls - i
+μ-loop calls codes₀ counts₀ place₀ codes counts place = calls - place
 
 loop-holds : tie.Need-loop-holds Inv-loop μ-loop
 loop-holds c =
@@ -42,8 +42,8 @@ mul-counts c = search needs
 slice-write-counts : tie.Need-slice-write-counts Inv-loop μ-loop
 slice-write-counts c = search needs
 
-add-i : tie.Need-add-i Inv-loop μ-loop
-add-i c = search needs
+add-place : tie.Need-add-place Inv-loop μ-loop
+add-place c = search needs
 
 loop-less : tie.Need-loop-less Inv-loop μ-loop
 loop-less c = search needs
@@ -84,7 +84,7 @@ refuse-all-spec =
     slice-write-codes
     mul-counts
     slice-write-counts
-    add-i
+    add-place
     loop-less
     loop-again
     same-length
