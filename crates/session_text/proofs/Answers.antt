@@ -5,7 +5,7 @@ use mathlib.Core.Path.{_≡_, sym, ap, _∙_}
 use native.Mathlib.Omega.{arith}
 use lib.ListN.{length, getD, take, List·getD-append}
 use lib.Seq.{drop-at, take-append-add}
-use Rattle.simulator.specs.Steps.{runOf}
+use Rattle.execution.specs.Steps.{runOf}
 use Rattle.session_text.specs.Inside.Buffers.{Fits}
 use Rattle.session_text.specs.LineFormats.{frontFormats, formatOf}
 use Rattle.session_text.specs.Laws.{OnlyGoodIsRead}

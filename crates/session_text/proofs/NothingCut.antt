@@ -9,10 +9,10 @@ use Rattle.machine.specs.declared.Code.{Code}
 use Rattle.machine.specs.declared.Code.the-variants.{Done, Setup, Undefined, SpAlign, Align, Outside, NoHistory, BadRecord, Field}
 use Rattle.machine.specs.Codes.{codeNumber}
 use Rattle.machine.proofs.Setup.{setup-state, state-status}
-use Rattle.simulator.specs.Calls.{Returned, Out, refused, done, inOrder, returned, oneMore}
-use Rattle.simulator.specs.Simulation.{Simulation, machineOf, wellFormed}
-use Rattle.simulator.specs.Steps.{runOf, stepOf}
-use Rattle.simulator.proofs.Kept.{step-keeps}
+use Rattle.execution.specs.Calls.{Returned, Out, refused, done, inOrder, returned, oneMore}
+use Rattle.execution.specs.Simulation.{Simulation, machineOf, wellFormed}
+use Rattle.execution.specs.Steps.{runOf, stepOf}
+use Rattle.execution.proofs.Kept.{step-keeps}
 use Rattle.session_text.specs.Laws.{NothingIsCut, OnlyGoodIsRead, Printable}
 use Rattle.session_text.specs.Run.{machineFor, ranOf, simulationOf, startOf, wordNumbers}
 use Rattle.session_text.proofs.OnlyGoodSessions.{only-good-is-read}

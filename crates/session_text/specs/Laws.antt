@@ -8,8 +8,8 @@ use lib.Dec.{leb}
 use lib.ListN.{length, take, drop}
 use Rattle.text.specs.declared.Line.the-variants.{Wrong}
 use Rattle.machine.specs.Codes.{codeNumber}
-use Rattle.simulator.specs.Calls.{Returned}
-use Rattle.simulator.specs.Simulation.{Simulation}
+use Rattle.execution.specs.Calls.{Returned}
+use Rattle.execution.specs.Simulation.{Simulation}
 use Rattle.session_text.specs.LineFormats.{InRange, formatOf, lineFor}
 use Rattle.session_text.specs.Parsing.{good, bad, ended, lineOf, parsed}
 use Rattle.session_text.specs.Run.{ranOf}

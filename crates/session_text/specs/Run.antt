@@ -5,9 +5,9 @@ use lib.Dec.{eqb}
 use lib.ListN.{getD, set, take, drop, replicate}
 use Rattle.machine.specs.declared.Machine.{Machine}
 use Rattle.machine.specs.State.{freshOn, withAccess, withExclude, withSeed}
-use Rattle.simulator.specs.Calls.{Returned}
-use Rattle.simulator.specs.Simulation.{Simulation, simulation}
-use Rattle.simulator.specs.Steps.{runOf}
+use Rattle.execution.specs.Calls.{Returned}
+use Rattle.execution.specs.Simulation.{Simulation, simulation}
+use Rattle.execution.specs.Steps.{runOf}
 
 -- the numbers of the nine lines, by name
 pub record Start : Type 0 where

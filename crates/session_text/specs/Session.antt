@@ -3,8 +3,8 @@ use Prim.Native.Nat.{ℕ, _≤_, _<_}
 use mathlib.Core.List.{List}
 use mathlib.Core.Path.{_≡_}
 use lib.ListN.{length, take}
-use Rattle.simulator.specs.Calls.{Returned}
-use Rattle.simulator.specs.Simulation.{Simulation}
+use Rattle.execution.specs.Calls.{Returned}
+use Rattle.execution.specs.Simulation.{Simulation}
 use Rattle.session_text.specs.Parsing.{Parsed, good, bad, parsed}
 use Rattle.session_text.specs.Run.{ranOf}
 use Rattle.session_text.specs.Printing.{badText, reportText}

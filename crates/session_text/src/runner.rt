@@ -2,7 +2,7 @@
 ghost use mathlib.Core.Path.{_≡_};
 ghost use Prim.Native.Nat.{_≤_};
 ghost use lib.ListN.{length};
-ghost use Rattle.simulator.specs.Steps.{runOf};
+ghost use Rattle.execution.specs.Steps.{runOf};
 ghost use Rattle.session_text.specs.Inside.Buffers.{Fits, Printed};
 ghost use Rattle.session_text.specs.Run.{machineFor, simulationOf, simulationOn, startOf};
 ghost use Rattle.session_text.specs.Session.{ranText};

@@ -3,7 +3,7 @@ use Prim.Native.Nat.{ℕ, suc}
 use mathlib.Core.List.{List, [], _∷_}
 use mathlib.Core.Path.{_≡_, refl, ap, subst}
 use Rattle.machine.specs.declared.Code.{Code}
-use Rattle.simulator.specs.Calls.{Call, stepCall, runCall, backCall, Out, refused, done, Answer, Returned, returned, answered, oneMore, inOrder, Callable, call, Ended, calls}
+use Rattle.execution.specs.Calls.{Call, stepCall, runCall, backCall, Out, refused, done, Answer, Returned, returned, answered, oneMore, inOrder, Callable, call, Ended, calls}
 
 module _ {X Y : Type 0} (R : X → Y → Type 0) where
   -- both are refused with one code, or both are done and keep the relation

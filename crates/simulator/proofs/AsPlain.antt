@@ -7,12 +7,12 @@ use lib.ListN.{length}
 use lib.Seq.{sets}
 use Rattle.machine.specs.State.{Typed}
 use Rattle.simulator.specs.declared.playing.PlayCode.{PlayCode}
-use Rattle.simulator.specs.Calls.{Call, Ended, calls}
+use Rattle.execution.specs.Calls.{Call, Ended, calls}
 use Rattle.simulator.specs.Demand3.{Agree, Demand3, plainBeside, plainStart}
 use Rattle.simulator.specs.PlainMachine.{Plain}
 use Rattle.simulator.specs.Playing.{AsPlain, Played, codesOf, countsOf, isPlayed, listed, onState, playCode, playOf, played}
-use Rattle.simulator.specs.Simulation.{Simulation}
-use Rattle.simulator.specs.Steps.{simulator}
+use Rattle.execution.specs.Simulation.{Simulation}
+use Rattle.execution.specs.Steps.{simulator}
 use Rattle.simulator.proofs.Demand3.{demand3}
 
 module _ (start : Simulation) (numbers words codes counts : List ℕ) where

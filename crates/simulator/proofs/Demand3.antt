@@ -18,13 +18,13 @@ use Rattle.history.specs.History.{History, capacity}
 use Rattle.history.specs.Recording.{recordOf}
 use Rattle.history.specs.Ring.{pushed, popped}
 use Rattle.history.proofs.Recorded.{Restores, word-undone}
-use Rattle.simulator.specs.Calls.{refused}
+use Rattle.execution.specs.Calls.{refused}
 use Rattle.simulator.specs.Demand3.{Demand3}
 use Rattle.simulator.specs.PlainMachine.{Plain, plainStep, plainBack, plainMachine}
-use Rattle.simulator.specs.Simulation.{Simulation, wellFormed}
-use Rattle.simulator.specs.Steps.{stepOf, runOf, stepBackOf, simulator}
-use Rattle.simulator.proofs.Cursors.{placed, placed-ok}
-use Rattle.simulator.proofs.Kept.{well-formed}
+use Rattle.execution.specs.Simulation.{Simulation, wellFormed}
+use Rattle.execution.specs.Steps.{stepOf, runOf, stepBackOf, simulator}
+use Rattle.execution.proofs.Cursors.{placed, placed-ok}
+use Rattle.execution.proofs.Kept.{well-formed}
 use Rattle.simulator.proofs.Ring.{Ringed, ring-start, ring-push, ring-newest, ring-pop}
 use Rattle.simulator.proofs.UndoLog.{Rules, Stacking, Logging, UndoLog, Popped, Beside, beside, calls-beside}
 

@@ -9,7 +9,7 @@ use borrow.Author.Tests.{le-ltb, ne-eqb}
 use lib.Dec.{ltb}
 use lib.ListN.{length, drop, length-append, length-map}
 use lib.Seq.{take-append-seam, drop-append-seam}
-use Rattle.simulator.specs.Calls.{Call, stepCall, runCall, backCall}
+use Rattle.execution.specs.Calls.{Call, stepCall, runCall, backCall}
 use Rattle.simulator.specs.Playing.{EveryListIsPlayed, allTaken, allWords, callOf, listed, callNumber, playCode, callWords, wordsTaken}
 
 -- a call's number, on its words with others behind them

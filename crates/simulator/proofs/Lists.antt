@@ -13,12 +13,12 @@ use lib.Seq.{drop-cons, drop-drop, sets}
 use Rattle.machine.specs.Codes.{codeNumber}
 use Rattle.simulator.specs.declared.playing.PlayCode.{PlayCode}
 use Rattle.simulator.specs.declared.playing.PlayCode.the-variants.{Done, NoRoom, NoWords}
-use Rattle.simulator.specs.Calls.{Ended, Returned, answered, returned, stepCall, runCall, inOrder, call, calls}
+use Rattle.execution.specs.Calls.{Ended, Returned, answered, returned, stepCall, runCall, inOrder, call, calls}
 use Rattle.simulator.specs.Playing.{allTaken, callOf, codesOf, countsOf, listed, playCode, playNumber, playOf, played, wordsTaken}
-use Rattle.simulator.specs.Simulation.{Simulation, wellFormed}
-use Rattle.simulator.specs.Steps.{stepOf, runOf, simulator}
+use Rattle.execution.specs.Simulation.{Simulation, wellFormed}
+use Rattle.execution.specs.Steps.{stepOf, runOf, simulator}
 use Rattle.simulator.specs.Inside.Playing.{Lent, Wrote}
-use Rattle.simulator.proofs.Kept.{one-step}
+use Rattle.execution.proofs.Kept.{one-step}
 use Rattle.simulator.proofs.Setups.{call-keeps}
 
 module _ (list : List ℕ) (i : ℕ) where

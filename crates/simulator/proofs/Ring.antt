@@ -12,7 +12,7 @@ use Rattle.history.specs.History.{History, capacity}
 use Rattle.history.specs.Ring.{advanced, previous, retreated, pushed, newest, popped}
 use Rattle.history.specs.Inside.Slots.{CursorPlaced}
 use Rattle.history.proofs.Slots.{pushed-either}
-use Rattle.simulator.proofs.Cursors.{advanced-placed, retreated-placed}
+use Rattle.execution.proofs.Cursors.{advanced-placed, retreated-placed}
 
 -- slots
 

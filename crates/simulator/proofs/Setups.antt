@@ -21,15 +21,15 @@ use Rattle.history.specs.Recording.{restored}
 use Rattle.history.specs.Records.{entryIn}
 use Rattle.history.specs.Inside.Slots.{CursorPlaced, historyOf}
 use Rattle.history.proofs.StatusWords.{in-range}
-use Rattle.simulator.specs.Calls.{Call, stepCall, runCall, backCall, Out, refused, done, Returned, returned, answered, oneMore, inOrder, call, calls}
+use Rattle.execution.specs.Calls.{Call, stepCall, runCall, backCall, Out, refused, done, Returned, returned, answered, oneMore, inOrder, call, calls}
 use Rattle.simulator.specs.Playing.{callOf, codesOf, countsOf, listed, wordsTaken}
-use Rattle.simulator.specs.Simulation.{Simulation, wellFormed}
-use Rattle.simulator.specs.Steps.{stepOf, runOf, stepBackOf, simulator}
+use Rattle.execution.specs.Simulation.{Simulation, wellFormed}
+use Rattle.execution.specs.Steps.{stepOf, runOf, stepBackOf, simulator}
 use Rattle.simulator.specs.Inside.Playing.{Wrote}
-use Rattle.simulator.specs.Inside.Taking.{undoneBy}
-use Rattle.simulator.proofs.Cursors.{placed, placed-ok, retreated-placed}
-use Rattle.simulator.proofs.Kept.{well-formed, step-keeps, ill-formed}
-use Rattle.simulator.proofs.StepsBack.{back-setup, back-none, back-undone}
+use Rattle.execution.specs.Inside.Taking.{undoneBy}
+use Rattle.execution.proofs.Cursors.{placed, placed-ok, retreated-placed}
+use Rattle.execution.proofs.Kept.{well-formed, step-keeps, ill-formed}
+use Rattle.execution.proofs.StepsBack.{back-setup, back-none, back-undone}
 
 -- what a call keeps
 

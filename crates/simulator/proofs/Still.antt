@@ -16,10 +16,10 @@ use Rattle.machine.specs.State.{State, Typed}
 use Rattle.machine.specs.Codes.{lowest}
 use Rattle.instructions.specs.WordOutcomes.{wordOutcome}
 use Rattle.instructions.specs.Edges.{p1}
-use Rattle.simulator.specs.Calls.{Callable, Out, refused, whenDone, inOrder, call, calls, stepCall}
+use Rattle.execution.specs.Calls.{Callable, Out, refused, whenDone, inOrder, call, calls, stepCall}
 use Rattle.simulator.specs.Demand3.{Demand3}
 use Rattle.simulator.specs.PlainMachine.{plainStep}
-use Rattle.simulator.specs.Simulation.{Simulation, wellFormed}
+use Rattle.execution.specs.Simulation.{Simulation, wellFormed}
 
 unfoldable pub still-step : Simulation → ℕ → Out Simulation
 still-step s w = whenDone (wordOutcome (sound (s .state)) w (s .state) .code) s

@@ -6,7 +6,7 @@ use mathlib.Core.Path.{_≡_, refl}
 use Rattle.machine.specs.declared.Code.{Code}
 use Rattle.machine.specs.declared.Code.the-variants.{NoHistory}
 use Rattle.machine.specs.Codes.{isDone}
-use Rattle.simulator.specs.Calls.{Call, refused, done, whenDone, inOrder, Callable, calls}
+use Rattle.execution.specs.Calls.{Call, refused, done, whenDone, inOrder, Callable, calls}
 use Rattle.simulator.proofs.Alike.{OutAlike, ReturnedAlike, EndedAlike, in-order-alike, calls-alike}
 
 -- What a state, a log and a copy are is not known here: a log has to keep the laws of `UndoLog`, whatever its layout.

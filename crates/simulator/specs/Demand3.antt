@@ -5,9 +5,9 @@ use mathlib.Core.Path.{_≡_}
 use lib.ListN.{length}
 use Rattle.machine.specs.State.{Typed}
 use Rattle.machine.specs.Setup.{slotsOf}
-use Rattle.simulator.specs.Calls.{Call, Ended, Callable, calls}
+use Rattle.execution.specs.Calls.{Call, Ended, Callable, calls}
 use Rattle.simulator.specs.PlainMachine.{Plain, plainMachine}
-use Rattle.simulator.specs.Simulation.{Simulation, wellFormed}
+use Rattle.execution.specs.Simulation.{Simulation, wellFormed}
 
 -- every answer, each run's count in it, and after the list the whole state
 pub record Agree (ours : Ended Simulation) (plain : Ended Plain) : Type 0 where

@@ -1,6 +1,3 @@
-pub mod Calls
-pub mod Simulation
-pub mod Steps
 pub mod PlainMachine
 pub mod Demand3
 pub mod Playing

@@ -6,7 +6,7 @@ use Rattle.machine.specs.declared.Code.the-variants.{NoHistory}
 use Rattle.machine.specs.State.{State}
 use Rattle.machine.specs.Setup.{sound}
 use Rattle.instructions.specs.WordOutcomes.{Outcome, wordOutcome}
-use Rattle.simulator.specs.Calls.{Out, refused, done, Callable, whenDone, inOrder}
+use Rattle.execution.specs.Calls.{Out, refused, done, Callable, whenDone, inOrder}
 
 -- its state, and the copies, newest first
 pub record Plain : Type 0 where

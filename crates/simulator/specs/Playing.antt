@@ -11,10 +11,10 @@ use Rattle.machine.specs.Codes.{codeNumber}
 use Rattle.machine.specs.State.{State}
 use Rattle.simulator.specs.declared.playing.PlayCode.{PlayCode}
 use Rattle.simulator.specs.declared.playing.PlayCode.the-variants.{Done, NoRoom, NoWords}
-use Rattle.simulator.specs.Calls.{Answer, Call, stepCall, runCall, backCall, Ended, Callable, calls}
+use Rattle.execution.specs.Calls.{Answer, Call, stepCall, runCall, backCall, Ended, Callable, calls}
 use Rattle.simulator.specs.Demand3.{plainBeside, plainStart}
 use Rattle.simulator.specs.PlainMachine.{Plain}
-use Rattle.simulator.specs.Simulation.{Simulation, wellFormed}
+use Rattle.execution.specs.Simulation.{Simulation, wellFormed}
 
 -- the call of a number, which takes its words from the first on: 0 steps back, 1 steps, and 2 + n runs n words
 unfoldable pub callOf : ℕ → List ℕ → Call

@@ -2,10 +2,12 @@
 // The machine goes in and out by value; its data bytes, tag bytes and history words are lent. Inside, the register file is lent too, and
 // the status goes as a number, as a record has it.
 ghost use mathlib.Core.Path.{_≡_};
-ghost use Rattle.simulator.specs.Calls.{answered, returned};
-ghost use Rattle.simulator.specs.Inside.Taking.{machineWith};
-ghost use Rattle.simulator.specs.Simulation.{simulation};
-ghost use Rattle.simulator.specs.Steps.{runOf, stepBackOf, stepOf};
+ghost use Rattle.execution.specs.Calls.{answered, returned};
+ghost use Rattle.execution.specs.Inside.Taking.{machineWith};
+ghost use Rattle.execution.specs.Simulation.{simulation};
+ghost use Rattle.execution.specs.Steps.{runOf, stepBackOf, stepOf};
+use execution::undoing;
+use execution::words;
 use history::status_words;
 use machine::Code;
 use machine::Cursor;
@@ -19,11 +21,7 @@ pub use playing::RUN;
 pub use playing::STEP;
 pub use playing::play;
 
-mod memory_words;
 mod playing;
-mod register_words;
-mod undoing;
-mod words;
 
 // The code of a step or a step back, and the machine after it.
 pub struct Stepped {
@@ -51,21 +49,6 @@ impl Stepped {
             machine: machine,
         }
     }
-}
-
-// A word's code, and the status and the cursor after it.
-pub(crate) struct Taken {
-    code: Code,
-    status: u64,
-    cursor: Cursor,
-}
-
-// The code and the count of a call, and the status and the cursor after it.
-pub(crate) struct After {
-    code: Code,
-    count: usize,
-    status: u64,
-    cursor: Cursor,
 }
 
 // Puts a machine together from its parts.

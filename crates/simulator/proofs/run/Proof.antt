@@ -2,8 +2,8 @@
 use borrow.Author.Needs.{needs}
 use mathlib.Core.Path.{sym, _∙_}
 use Rattle.machine.proofs.Setup.{setup-status}
-use Rattle.simulator.specs.Simulation.{wellFormed}
-use Rattle.simulator.specs.Steps.{runOf}
+use Rattle.execution.specs.Simulation.{wellFormed}
+use Rattle.execution.specs.Steps.{runOf}
 use Rattle.simulator.proofs.run.Statement.{statement}
 use Rattle.simulator.proofs.run.Tie as tie
 

@@ -1,6 +1,6 @@
 -- `simulator::step` meets its contract. Assumes nothing.
 use borrow.Author.Needs.{needs}
-use Rattle.simulator.proofs.Kept.{one-step}
+use Rattle.execution.proofs.Kept.{one-step}
 use Rattle.simulator.proofs.step.Statement.{statement}
 use Rattle.simulator.proofs.step.Tie as tie
 

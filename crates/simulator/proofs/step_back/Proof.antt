@@ -2,10 +2,10 @@
 use borrow.Author.Needs.{needs}
 use mathlib.Core.Path.{sym, _∙_}
 use Rattle.machine.proofs.Setup.{setup-status}
-use Rattle.simulator.specs.Simulation.{Simulation, simulation, wellFormed}
-use Rattle.simulator.specs.Steps.{stepBackOf}
-use Rattle.simulator.specs.Inside.Taking.{gathered}
-use Rattle.simulator.proofs.StepsBack.{back-setup, uncounted}
+use Rattle.execution.specs.Simulation.{Simulation, simulation, wellFormed}
+use Rattle.execution.specs.Steps.{stepBackOf}
+use Rattle.execution.specs.Inside.Taking.{gathered}
+use Rattle.execution.proofs.StepsBack.{back-setup, uncounted}
 use Rattle.simulator.proofs.step_back.Statement.{statement}
 use Rattle.simulator.proofs.step_back.Tie as tie
 

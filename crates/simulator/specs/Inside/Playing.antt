@@ -4,10 +4,10 @@ use mathlib.Core.List.{List}
 use mathlib.Core.Path.{_≡_}
 use lib.ListN.{length}
 use lib.Seq.{sets}
-use Rattle.simulator.specs.Calls.{calls}
+use Rattle.execution.specs.Calls.{calls}
 use Rattle.simulator.specs.Playing.{allTaken, codesOf, countsOf, listed}
-use Rattle.simulator.specs.Simulation.{Simulation}
-use Rattle.simulator.specs.Steps.{simulator}
+use Rattle.execution.specs.Simulation.{Simulation}
+use Rattle.execution.specs.Steps.{simulator}
 
 -- so many words, places for codes and places for counts are enough
 pub record Lent (list : List ℕ) (w k n : ℕ) : Type 0 where

@@ -8,8 +8,8 @@ use native.Mathlib.Omega.{arith}
 use lib.ListN.{length, getD, take, drop, length-append}
 use lib.Seq.{sets, length-take-le, take-at}
 use Rattle.machine.specs.declared.Machine.{Machine}
-use Rattle.simulator.specs.Simulation.{simulation}
-use Rattle.simulator.specs.Steps.{runOf}
+use Rattle.execution.specs.Simulation.{simulation}
+use Rattle.execution.specs.Steps.{runOf}
 use Rattle.session_text.specs.Printing.{reportText}
 use Rattle.session_text.specs.Run.{simulationOn, startOf}
 use Rattle.session_text.specs.Session.{ranText}

@@ -2,7 +2,7 @@
 use borrow.Author.Needs.{needs}
 use native.Mathlib.Omega.{arith}
 use lib.ListN.{length-take}
-use Rattle.simulator.specs.Calls.{call}
+use Rattle.execution.specs.Calls.{call}
 use Rattle.simulator.specs.Playing.{callOf}
 use Rattle.simulator.proofs.Lists.{words-called}
 use Rattle.simulator.proofs.playing.make_call.Statement.{statement}

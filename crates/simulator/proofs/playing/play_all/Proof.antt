@@ -7,7 +7,7 @@ use native.Mathlib.Omega.{arith}
 use lib.ListN.{length, length-set}
 use Rattle.machine.proofs.Parts.{lent-part}
 use Rattle.history.specs.Inside.StatusWords.{IsStatus}
-use Rattle.simulator.specs.Inside.Taking.{gathered}
+use Rattle.execution.specs.Inside.Taking.{gathered}
 use Rattle.simulator.proofs.Lists.{Reached, at-start, at-end, has-words, one-on, taken-on}
 use Rattle.simulator.proofs.playing.play_all.Statement.{statement}
 use Rattle.simulator.proofs.playing.play_all.Tie as tie

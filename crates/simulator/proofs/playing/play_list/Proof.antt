@@ -2,7 +2,7 @@
 use borrow.Author.Needs.{needs}
 use mathlib.Core.Path.{sym, _∙_}
 use Rattle.machine.proofs.Setup.{setup-status}
-use Rattle.simulator.specs.Simulation.{wellFormed}
+use Rattle.execution.specs.Simulation.{wellFormed}
 use Rattle.simulator.proofs.Setups.{list-refused}
 use Rattle.simulator.proofs.playing.play_list.Statement.{statement}
 use Rattle.simulator.proofs.playing.play_list.Tie as tie

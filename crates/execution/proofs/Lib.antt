@@ -1,0 +1,10 @@
+-- Laws of the definitions, for the proofs here and in the crates above.
+pub mod CheckOrder
+pub mod Cursors
+pub mod Kept
+pub mod MemoryForms
+pub mod RegisterRecords
+pub mod Runs
+pub mod StepsBack
+pub mod StoreRecords
+pub mod Taking

@@ -1,0 +1,4 @@
+pub mod Calls
+pub mod Simulation
+pub mod Steps
+pub mod Inside
