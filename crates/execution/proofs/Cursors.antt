@@ -11,8 +11,7 @@ use lib.Seq.{sets, length-sets}
 use borrow.Author.Tests.{eqb-true, eqb-false, ltb-true, leb-true, eq-eqb, lt-ltb, le-leb}
 use Rattle.machine.specs.declared.Cursor.{Cursor}
 use Rattle.machine.specs.Setup.{cursorOk}
-use Rattle.history.specs.History.{History, capacity}
-use Rattle.history.specs.Ring.{advanced, previous, retreated, pushed}
+use Rattle.history.specs.Ring.{History, capacity, advanced, previous, retreated, pushed}
 use Rattle.history.specs.Inside.Slots.{CursorPlaced}
 use Rattle.history.proofs.Slots.{pushed-either}
 

@@ -15,9 +15,8 @@ use Rattle.machine.specs.Codes.{codeNumber, isDone, lowest}
 use Rattle.machine.specs.Setup.{sound, cursorOk, setupOk}
 use Rattle.instructions.specs.WordOutcomes.{Outcome, wordOutcome}
 use Rattle.instructions.proofs.WellFormed.{SameShape, word-sound, word-keeps}
-use Rattle.history.specs.History.{capacity}
+use Rattle.history.specs.Ring.{capacity, pushed}
 use Rattle.history.specs.Recording.{recordOf}
-use Rattle.history.specs.Ring.{pushed}
 use Rattle.execution.specs.Calls.{Out, refused, done, Returned, returned, whenDone, answered, oneMore, inOrder}
 use Rattle.execution.specs.Simulation.{Simulation, wellFormed}
 use Rattle.execution.specs.Steps.{stepOf, runOf}

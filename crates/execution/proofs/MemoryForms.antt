@@ -15,8 +15,7 @@ use Rattle.isa.specs.declared.TagStoreOp.the-variants.{Stg, Stzg, St2g, Stz2g}
 use Rattle.isa.specs.declared.Form.{Form}
 use Rattle.isa.specs.declared.Form.the-variants.{Ldg, TagStore, Stgp}
 use Rattle.isa.specs.declared.Decoded.{Decoded}
-use Rattle.isa.specs.declared.Decoded.the-variants.{Is}
-use Rattle.isa.specs.declared.Decoded.the-variants.{Undefined as NoForm}
+use Rattle.isa.specs.declared.Decoded.the-variants.{Is, Undefined as NoForm}
 use Rattle.isa.specs.Decoding.{signedAmount, ldgAt, tagStoreAt, decodeOf}
 use Rattle.isa.specs.Inside.DecodingBranches.{ifBit21, ldgBranch, modeOf}
 use Rattle.isa.proofs.Decoding.{decode-memory-tags}
@@ -28,7 +27,7 @@ use Rattle.machine.specs.declared.Cursor.{Cursor}
 use Rattle.machine.specs.declared.Settings.{Settings}
 use Rattle.machine.specs.Registers.{xOrSp, xOrZero, orNone}
 use Rattle.instructions.specs.Accesses.{accessOf, addressOf, granulesNamed, roundedDown, writebackTo}
-use Rattle.instructions.specs.TagLoad.{loadedTag}
+use Rattle.instructions.specs.MemoryWords.{loadedTag}
 use Rattle.instructions.specs.declared.accesses.Placed.{Placed}
 use Rattle.instructions.specs.declared.accesses.Placed.the-variants.{First, Nowhere}
 use Rattle.instructions.specs.Inside.Effects.{Change, pair, Effect, registerEffect, storeEffect, formEffect, zeroing}
@@ -37,7 +36,7 @@ use Rattle.instructions.proofs.Places.{address-aligned, placed-first, placed-no
 use Rattle.history.specs.Inside.StatusWords.{IsStatus}
 use Rattle.execution.specs.Calls.{refused, done}
 use Rattle.execution.specs.Simulation.{Simulation}
-use Rattle.execution.specs.Inside.Taking.{Took, carriedOut, decodedTaken, formTaken, gathered, opIn, storeTaken, tagStoreOp, zeroedIf}
+use Rattle.execution.specs.Inside.Taking.{Took, effectTaken, decodedTaken, formTaken, gathered, opIn, storeTaken, tagStoreOp, zeroedIf}
 
 -- an amount is a whole number of granules
 amount-whole : (half imm : ℕ) → imm < 2 * half → half ≤ 256 → signedAmount half imm % 16 ≡ 0
@@ -101,7 +100,7 @@ module _ (f : Form) (s : Simulation) where
   codeFor = accessCode (s .state .settings .base) (length (s .state .tags)) (accessOf f (s .state))
 
   done-first : (first i : ℕ) → placedBy codeFor first ≡ First i
-      → (decodedTaken (Is f) s ≡ done (carriedOut (formEffect f (s .state)) s)) × (first ≡ i)
+      → (decodedTaken (Is f) s ≡ done (effectTaken (formEffect f (s .state)) s)) × (first ≡ i)
   unfolding decodedTaken formTaken
   done-first first i h = let p = placed-first codeFor first i h in (rw (p .0), p .1)
 
@@ -159,7 +158,7 @@ module _ (s : Simulation) where
 
   pub ldg-first : (t n amount i : ℕ) → loadAt n amount ≡ First i
       → decodedTaken (Is (Ldg t n amount)) s
-      ≡ done (carriedOut (registerEffect (orNone t) (withTag (xOrZero x t) (loadedTag (s .state .settings) (s .state .tags) i)) (s .state .registers .status)) s)
+      ≡ done (effectTaken (registerEffect (orNone t) (withTag (xOrZero x t) (loadedTag (s .state .settings) (s .state .tags) i)) (s .state .registers .status)) s)
   ldg-first t n amount i h =
       let p = done-first (Ldg t n amount) s (indexOf base (roundedDown (onward (xOrSp x n) amount))) i h in
       rw (← (p .1)) (p .0)
@@ -170,7 +169,7 @@ module _ (s : Simulation) where
       → decodedTaken (Is f) s ≡ storeTaken (writebackTo mode n) (onward (xOrSp x n) amount) i g tag change s
   store-first f mode n amount g tag i change e h =
       let p = done-first f s (indexOf base (addressOf mode (xOrSp x n) amount)) i h in
-      p .0 ∙ ap (λ (effect : Effect). done (carriedOut effect s)) e
+      p .0 ∙ ap (λ (effect : Effect). done (effectTaken effect s)) e
       ∙ ap (λ (first : ℕ). storeTaken (writebackTo mode n) (onward (xOrSp x n) amount) first g tag change s) (p .1)
 
   pub stgp-first : (mode : Mode) (t t2 n amount i : ℕ) → storeAt mode n amount 1 ≡ First i

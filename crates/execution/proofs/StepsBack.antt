@@ -10,8 +10,7 @@ use Rattle.machine.specs.declared.Code.the-variants.{Done, Setup, NoHistory, Ba
 use Rattle.machine.specs.declared.Cursor.{Cursor}
 use Rattle.machine.specs.Codes.{lowest}
 use Rattle.history.specs.BadRecords.{malformed}
-use Rattle.history.specs.History.{capacity}
-use Rattle.history.specs.Ring.{retreated, newest, popped}
+use Rattle.history.specs.Ring.{capacity, retreated, newest, popped}
 use Rattle.execution.specs.Calls.{Out, refused, done, whenDone, Returned, returned, answered}
 use Rattle.execution.specs.Simulation.{Simulation, wellFormed}
 use Rattle.execution.specs.Steps.{stepBackOf}

@@ -6,8 +6,7 @@ use mathlib.Core.Path.{_≡_, refl, sym, ap, _∙_}
 use lib.ListN.{length}
 use Rattle.isa.specs.declared.Form.{Form}
 use Rattle.isa.specs.declared.Decoded.{Decoded}
-use Rattle.isa.specs.declared.Decoded.the-variants.{Is}
-use Rattle.isa.specs.declared.Decoded.the-variants.{Undefined as NoForm}
+use Rattle.isa.specs.declared.Decoded.the-variants.{Is, Undefined as NoForm}
 use Rattle.isa.specs.Decoding.{decodeOf}
 use Rattle.memory.specs.Sizes.{sizesOk}
 use Rattle.machine.specs.Codes.{lowest, isDone}
@@ -18,10 +17,9 @@ use Rattle.instructions.specs.WordOutcomes.{codeOf, carriedOut, operation, word
 use Rattle.instructions.specs.Inside.Effects.{applied, formEffect}
 use Rattle.instructions.specs.Inside.Places.{accessCode}
 use Rattle.instructions.proofs.Outcomes.{form-outcome}
-use Rattle.history.specs.History.{capacity}
+use Rattle.history.specs.Ring.{capacity, pushed}
 use Rattle.history.specs.Recording.{recordOf}
 use Rattle.history.specs.Records.{wordsOf}
-use Rattle.history.specs.Ring.{pushed}
 use Rattle.history.specs.Inside.Slots.{entryOn}
 use Rattle.history.specs.Inside.StatusWords.{IsStatus}
 use Rattle.history.proofs.Recorded.{form-entry}
@@ -37,7 +35,7 @@ abbrev stepBy : Decoded → Simulation → Out Simulation
 stepBy d s =
     whenDone (codeOf true d (s .state))
     (record {
-      state = cond (isDone (codeOf true d (s .state))) (Rattle.instructions.specs.WordOutcomes.carriedOut d (s .state)) (s .state);
+      state = cond (isDone (codeOf true d (s .state))) (carriedOut d (s .state)) (s .state);
       history = pushed (recordOf d (s .state)) (s .history);
     })
 

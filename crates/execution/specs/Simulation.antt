@@ -6,7 +6,7 @@ use lib.ListN.{length}
 use Rattle.machine.specs.declared.Machine.{Machine}
 use Rattle.machine.specs.State.{State, withMemory}
 use Rattle.machine.specs.Setup.{setupOk}
-use Rattle.history.specs.History.{History}
+use Rattle.history.specs.Ring.{History}
 
 -- the state that words change, and the history words with the cursor
 pub record Simulation : Type 0 where

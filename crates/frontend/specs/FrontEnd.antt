@@ -2,8 +2,7 @@
 use Prim.Native.Nat.{ℕ}
 use mathlib.Core.Bool.{cond, _||_}
 use lib.Dec.{ltb}
-use Rattle.isa.specs.Answers.{decodedCode}
-use Rattle.isa.specs.Decoding.{decodeOf}
+use Rattle.isa.specs.Decoding.{decodedCode, decodeOf}
 use Rattle.tag.specs.TagChoice.{chosen}
 
 -- tag choice: 16 (no tag) if start or offset exceeds 15 or the mask exceeds 65,535

@@ -7,8 +7,7 @@ use native.Mathlib.Omega.{arith}
 use lib.Dec.{eqb}
 use lib.Seq.{sets}
 use borrow.Author.Tests.{eqb-true, eqb-false}
-use Rattle.history.specs.History.{History, capacity}
-use Rattle.history.specs.Ring.{advanced, pushed}
+use Rattle.history.specs.Ring.{History, capacity, advanced, pushed}
 
 -- what holds of the history as it was, with no slots, and with the record written, holds of it with the record put in
 pub pushed-either : (P : History → Type 0) (r : List ℕ) (h : History) → (capacity h ≡ 0 → P h)

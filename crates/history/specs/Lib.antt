@@ -1,4 +1,3 @@
-pub mod History
 pub mod Records
 pub mod BadRecords
 pub mod Recording

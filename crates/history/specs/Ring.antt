@@ -1,12 +1,21 @@
--- The ring of slots and its cursor (document 01, "History", first paragraph).
+-- The lent history, its ring of slots and its cursor (document 01, "The machine we model" and "History", first paragraph).
 use Prim.Native.Nat.{ℕ, _+_, _*_, _-_, _%_, min}
 use mathlib.Core.Bool.{cond}
 use mathlib.Core.List.{List}
+use lib.ListN.{length, take, drop}
 use lib.Dec.{eqb}
-use lib.ListN.{take, drop}
 use lib.Seq.{sets}
 use Rattle.machine.specs.declared.Cursor.{Cursor}
-use Rattle.history.specs.History.{History, capacity}
+use Rattle.machine.specs.Setup.{slotsOf}
+
+-- the lent history words, with the cursor
+pub record History : Type 0 where
+  pub words : List ℕ
+  pub cursor : Cursor
+
+-- C, the number of slots
+abbrev pub capacity : History → ℕ
+capacity h = slotsOf (length (h .words))
 
 -- next goes up by one mod c and held rises to at most c
 unfoldable pub advanced : ℕ → Cursor → Cursor

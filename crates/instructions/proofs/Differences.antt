@@ -8,7 +8,7 @@ use lib.Dec.{eqb, leb}
 use borrow.Author.Tests.{eq-eqb, ne-eqb, leb-true, leb-false}
 use Rattle.bits.specs.Fields.{bitsAt}
 use Rattle.bits.proofs.Fields.{field-lt}
-use Rattle.instructions.specs.Pointers.{extended, sumWithCarry, signedPlus, flagsOf, complement}
+use Rattle.instructions.specs.RegisterWords.{extended, sumWithCarry, signedPlus, flagsOf, complement}
 
 -- what a wrapping difference is
 pub subtracted : (r a b : ℕ) → r < 2 ^ 64 → b < 2 ^ 64 → (r + b) % 2 ^ 64 ≡ a → r ≡ (a + (2 ^ 64 - b)) % 2 ^ 64

@@ -11,9 +11,8 @@ use Rattle.isa.specs.declared.Form.the-variants.{AddSub, TwoSource, Ldg, TagSto
 use Rattle.tag.proofs.TagChoice.{chosen-lt}
 use Rattle.machine.specs.declared.Status.{Status}
 use Rattle.machine.specs.State.{State, withNzcv}
-use Rattle.machine.specs.Registers.{xOrSp}
-use Rattle.instructions.specs.Pointers.{extended, sumWithCarry, signedPlus, flagsOf, complement}
-use Rattle.instructions.specs.RandomTag.{randomTag, afterDraw, irgMask}
+use Rattle.machine.specs.Registers.{xOrSp, xOrZero}
+use Rattle.instructions.specs.RegisterWords.{extended, sumWithCarry, signedPlus, flagsOf, complement, randomTag, afterDraw, maskOf}
 use Rattle.instructions.specs.Inside.Effects.{formEffect}
 
 four-bits : (n z c v : ℕ) → n < 2 → z < 2 → c < 2 → v < 2 → n * 8 + z * 4 + c * 2 + v ≤ 15
@@ -39,8 +38,8 @@ module _ (P : Status → Type 0) (s : State) (kept : P (s .registers .status))
       flags _ (flags-le (extended (xOrSp (s .registers .x) n)) (complement (extended (xOrSp (s .registers .x) m))) 1)
   form-status (TwoSource Irg d n m) = go (s .settings .access)
     where
-      go : (t : Bool) → P (cond t (afterDraw (s .registers .status) (irgMask (s .settings) (s .registers .x) m)) (s .registers .status))
-      go true = draw (irgMask (s .settings) (s .registers .x) m)
+      go : (t : Bool) → P (cond t (afterDraw (s .registers .status) (maskOf (s .settings) (xOrZero (s .registers .x) m))) (s .registers .status))
+      go true = draw (maskOf (s .settings) (xOrZero (s .registers .x) m))
       go false = kept
   form-status (TwoSource Gmi d n m) = kept
   form-status (Ldg t n amount) = kept

@@ -22,8 +22,7 @@ use Rattle.memory.proofs.Lists.{sets-append}
 use Rattle.machine.specs.State.{State, withX, withBytes, withTags}
 use Rattle.machine.specs.Registers.{written}
 use Rattle.instructions.specs.Accesses.{writeback, writebackTo, granulesNamed}
-use Rattle.instructions.specs.TagStores.{storeTag, storeTags}
-use Rattle.instructions.specs.PairStore.{storePair}
+use Rattle.instructions.specs.MemoryWords.{storeTag, storeTags, storePair}
 use Rattle.instructions.specs.Inside.Effects.{Change, kept, pair, newBytes, newTags, zeroing}
 
 pub written-back : (mode : Mode) (n v : ℕ) (s : State) → writeback mode n v s ≡ withX (written (s .registers .x) (writebackTo mode n) v) s

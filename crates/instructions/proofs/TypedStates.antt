@@ -13,7 +13,7 @@ use Rattle.isa.specs.declared.TwoSourceOp.the-variants.{Subp, Subps, Irg, Gmi}
 use Rattle.isa.specs.declared.Form.{Form}
 use Rattle.isa.specs.declared.Form.the-variants.{AddSub, TwoSource, Ldg, TagStore, Stgp}
 use Rattle.tag.proofs.RandomBits.{seed-lt}
-use Rattle.memory.specs.Stores.{pairBytes, equalTags}
+use Rattle.memory.specs.Stores.{pairBytes}
 use Rattle.machine.specs.State.{State, Typed}
 use Rattle.machine.specs.Setup.{sound}
 use Rattle.machine.specs.Registers.{xOrSp}
@@ -67,7 +67,7 @@ new-bytes (pair low high) n = pair-bytes low high
 
 -- the tags that it stores are tags
 
-equal-tags : (n tag : ℕ) → tag < 2 ^ 8 → Bytes (equalTags n tag)
+equal-tags : (n tag : ℕ) → tag < 2 ^ 8 → Bytes (replicate n tag)
 equal-tags zero tag h i = omega arith
 equal-tags (suc n) tag h zero = h
 equal-tags (suc n) tag h (suc i) = equal-tags n tag h i

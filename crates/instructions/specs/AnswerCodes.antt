@@ -5,7 +5,8 @@ use mathlib.Core.Bool.{Bool}
 use Rattle.isa.specs.declared.Decoded.{Decoded}
 use Rattle.isa.specs.declared.Decoded.the-variants.{Undefined as NoForm}
 use Rattle.isa.specs.declared.Encoded.the-variants.{Field as NoWord}
-use Rattle.isa.specs.Answers.{decodedCode, encodedCode}
+use Rattle.isa.specs.Decoding.{decodedCode}
+use Rattle.isa.specs.Encoding.{encodedCode}
 use Rattle.memory.specs.declared.Granule.the-variants.{Outside as NoGranule}
 use Rattle.memory.specs.Locations.{granuleCode}
 use Rattle.machine.specs.declared.Code.the-variants.{Undefined, Outside, Field}

@@ -1,9 +1,6 @@
 pub mod Accesses
-pub mod Pointers
-pub mod RandomTag
-pub mod TagLoad
-pub mod TagStores
-pub mod PairStore
+pub mod RegisterWords
+pub mod MemoryWords
 pub mod WordOutcomes
 pub mod AnswerCodes
 pub mod Edges

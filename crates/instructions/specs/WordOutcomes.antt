@@ -8,19 +8,15 @@ use Rattle.isa.specs.declared.TwoSourceOp.the-variants.{Subp, Subps, Irg, Gmi}
 use Rattle.isa.specs.declared.Form.{Form}
 use Rattle.isa.specs.declared.Form.the-variants.{AddSub, TwoSource, Ldg, TagStore, Stgp}
 use Rattle.isa.specs.declared.Decoded.{Decoded}
-use Rattle.isa.specs.declared.Decoded.the-variants.{Is}
-use Rattle.isa.specs.declared.Decoded.the-variants.{Undefined as NoForm}
+use Rattle.isa.specs.declared.Decoded.the-variants.{Is, Undefined as NoForm}
 use Rattle.isa.specs.Decoding.{decodeOf}
 use Rattle.machine.specs.declared.Code.{Code}
 use Rattle.machine.specs.declared.Code.the-variants.{Setup, Undefined}
 use Rattle.machine.specs.State.{State}
 use Rattle.machine.specs.Codes.{Check, check, lowest, isDone}
 use Rattle.instructions.specs.Accesses.{Access, noAccess, accessOf, accessChecks}
-use Rattle.instructions.specs.Pointers.{addSub, subp, subps, gmi}
-use Rattle.instructions.specs.RandomTag.{irg}
-use Rattle.instructions.specs.TagLoad.{ldg}
-use Rattle.instructions.specs.TagStores.{tagStore}
-use Rattle.instructions.specs.PairStore.{stgp}
+use Rattle.instructions.specs.RegisterWords.{addSub, subp, subps, gmi, irg}
+use Rattle.instructions.specs.MemoryWords.{ldg, tagStore, stgp}
 
 -- what each form does
 

@@ -2,7 +2,7 @@
 ghost use mathlib.Core.Bool.{cond};
 ghost use mathlib.Core.Path.{_≡_};
 ghost use Prim.Native.Nat.{_<_, _≤_};
-ghost use Rattle.instructions.specs.Pointers.{addSubResult, chosenOr0, difference, differenceFlags, extended, moved, withTagBit};
+ghost use Rattle.instructions.specs.RegisterWords.{addSubResult, chosenOr0, difference, differenceFlags, extended, moved, withTagBit};
 use isa::AddSubOp;
 use machine::Settings;
 

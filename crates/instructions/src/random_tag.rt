@@ -3,7 +3,7 @@ ghost use mathlib.Core.Path.{_≡_};
 ghost use Prim.Native.Nat.{_<_};
 ghost use Rattle.tag.specs.RandomBits.{bitsDrawn, seedDrawn};
 ghost use Rattle.tag.specs.TagChoice.{chosen};
-ghost use Rattle.instructions.specs.RandomTag.{maskOf};
+ghost use Rattle.instructions.specs.RegisterWords.{maskOf};
 use machine::Settings;
 
 // A tag that was chosen, and the seed after it.

@@ -2,7 +2,7 @@
 ghost use mathlib.Core.Path.{_≡_};
 ghost use Prim.Native.Nat.{_<_};
 ghost use lib.ListN.{length};
-ghost use Rattle.instructions.specs.TagLoad.{loadedTag};
+ghost use Rattle.instructions.specs.MemoryWords.{loadedTag};
 use machine::Settings;
 
 // The tag of granule i.

@@ -1,4 +1,4 @@
--- From a word to its form (document 01, "Words").
+-- From a word to its form (document 01, "Words"; codes: "Codes and their order").
 use Prim.Native.Nat.{ℕ, _-_, _*_, _^_}
 use mathlib.Core.Bool.{cond}
 use mathlib.Core.List.{List, [], _∷_}
@@ -58,3 +58,8 @@ formOf w (f ∷ fs) = cond (eqb (wordOf f) w) (Is f) (formOf w fs)
 -- the form whose word is w, or UNDEFINED
 unfoldable pub decodeOf : ℕ → Decoded
 decodeOf w = formOf w (formsAt w)
+
+-- its code: 0 DONE, 2 UNDEFINED
+abbrev pub decodedCode : Decoded → ℕ
+decodedCode (Is f) = 0
+decodedCode Undefined = 2

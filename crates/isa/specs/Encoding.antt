@@ -1,4 +1,4 @@
--- From a form to its word, and when a field is refused (document 01, "Words").
+-- From a form to its word, and when a field is refused (document 01, "Words"; codes: "Codes and their order").
 use Prim.Native.Nat.{ℕ, _-_, _%_, _^_}
 use mathlib.Core.Bool.{Bool, cond, _&&_, _||_}
 use lib.Dec.{leb, ltb, eqb}
@@ -27,3 +27,13 @@ fieldsFit (Stgp mode t t2 n amount) = register t && register t2 && register n &&
 -- the word of a form, or FIELD
 unfoldable pub encodeOf : Form → Encoded
 encodeOf f = cond (fieldsFit f) (Word (wordOf f)) Field
+
+-- its code: 0 DONE, 8 FIELD
+abbrev pub encodedCode : Encoded → ℕ
+encodedCode (Word w) = 0
+encodedCode Field = 8
+
+-- with FIELD the word returned is 0
+abbrev pub encodedWord : Encoded → ℕ
+encodedWord (Word w) = w
+encodedWord Field = 0

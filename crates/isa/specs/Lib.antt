@@ -1,4 +1,3 @@
-pub mod Answers
 pub mod Decoding
 pub mod Encoding
 pub mod Inside

@@ -1,4 +1,4 @@
-// The forms of a word whose bits 31:22 are known. The module is public because `simulator` calls `signed` and `mode_of`.
+// The forms of a word whose bits 31:22 are known. The module is public because `execution` calls `signed`.
 use super::AddSubOp;
 use super::Decoded;
 use super::Form;
@@ -113,7 +113,7 @@ fn tag_store(op: TagStoreOp, mode: Mode, w: u64) -> Decoded
 }
 
 // The mode of bits 11:10 that are not zero: a value, so that what follows does not branch on it.
-pub fn mode_of(mode: u64) -> Mode
+fn mode_of(mode: u64) -> Mode
     ensures { λ r. ⌜ r ≡ modeOf mode ⌝ }
 {
     match mode {

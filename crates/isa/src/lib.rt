@@ -1,8 +1,7 @@
 // The instruction words of the memory tagging extension: their forms, the decoder and the encoder.
 ghost use mathlib.Core.Path.{_≡_};
-ghost use Rattle.isa.specs.Answers.{decodedCode, encodedCode, encodedWord};
-ghost use Rattle.isa.specs.Decoding.{decodeOf};
-ghost use Rattle.isa.specs.Encoding.{encodeOf};
+ghost use Rattle.isa.specs.Decoding.{decodedCode, decodeOf};
+ghost use Rattle.isa.specs.Encoding.{encodedCode, encodedWord, encodeOf};
 
 pub mod decoder;
 mod encoder;

@@ -19,7 +19,3 @@ savedBytes n a b c d = take (16 * n) (pairBytes a b ++ pairBytes c d)
 -- the tag bytes of n granules, at most two, from those saved
 abbrev pub savedTags : ℕ → ℕ → ℕ → List ℕ
 savedTags n first second = take n (first ∷ second ∷ [])
-
--- one tag for each of n granules
-abbrev pub equalTags : ℕ → ℕ → List ℕ
-equalTags n tag = replicate n tag

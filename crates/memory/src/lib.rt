@@ -4,11 +4,11 @@
 ghost use mathlib.Core.Bool.{true};
 ghost use mathlib.Core.Path.{_≡_};
 ghost use Prim.Native.Nat.{_+_, _*_, _%_, _≤_};
-ghost use lib.ListN.{length};
+ghost use lib.ListN.{length, replicate};
 ghost use lib.Seq.{sets};
 ghost use Rattle.memory.specs.Locations.{granuleCode, granuleOf};
 ghost use Rattle.memory.specs.Sizes.{sizesOk};
-ghost use Rattle.memory.specs.Stores.{equalTags, pairBytes, savedBytes, savedTags, zeroBytes};
+ghost use Rattle.memory.specs.Stores.{pairBytes, savedBytes, savedTags, zeroBytes};
 
 // The first of the granules that an address names, or none where one of them is outside.
 pub enum Granule {
@@ -120,7 +120,7 @@ pub fn store_tags(tags: &mut [u8], at: usize, granules: usize, tag: u8)
     requires { ⌜ 1 ≤ granules ⌝ }
     requires { ⌜ granules ≤ 2 ⌝ }
     requires { ⌜ at + granules ≤ length (now tags) ⌝ }
-    ensures { λ _. ⌜ now (tags .exit) ≡ sets (now (tags .entry)) at (equalTags granules tag) ⌝ }
+    ensures { λ _. ⌜ now (tags .exit) ≡ sets (now (tags .entry)) at (replicate granules tag) ⌝ }
 {
     tags[at] = tag;
     if granules == 2 {

@@ -10,7 +10,7 @@ use super::player::Player;
 use super::reached;
 use super::writer::put_line;
 use isa::Decoded;
-ghost use Rattle.replay.specs.Buffer.{Filled};
+ghost use Rattle.replay.specs.Inside.Buffer.{Filled};
 
 fn put_one(out: &mut [u8], filled: usize, kind: u64, a: u64) -> usize
     requires { ⌜ Filled filled (now out) ⌝ }

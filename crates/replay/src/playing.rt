@@ -9,7 +9,7 @@ use super::numbers::at_most;
 use super::player;
 use super::player::Player;
 ghost use mathlib.Core.Path.{_≡_};
-ghost use Rattle.replay.specs.Buffer.{Filled};
+ghost use Rattle.replay.specs.Inside.Buffer.{Filled};
 
 // How far a script is played: the player, what is collected, and how many bytes of the buffer are filled.
 pub(crate) struct Progress {

@@ -5,7 +5,7 @@ use super::lines::shape_of;
 use super::numbers::at_most;
 ghost use Prim.Native.Nat.{_+_, _≤_};
 ghost use lib.ListN.{length};
-ghost use Rattle.replay.specs.Buffer.{Filled};
+ghost use Rattle.replay.specs.Inside.Buffer.{Filled};
 
 // Writes bytes to standard output. A write that fails is told on standard error, and is the last: what is written stays the
 // beginning of the answer, without a gap, and the failure is told once.

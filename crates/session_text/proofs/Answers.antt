@@ -3,7 +3,7 @@ use Prim.Native.Nat.{ℕ, _+_, _-_, _≤_, _<_}
 use mathlib.Core.List.{List, _++_}
 use mathlib.Core.Path.{_≡_, sym, ap, _∙_}
 use native.Mathlib.Omega.{arith}
-use lib.ListN.{length, getD, take, List·getD-append}
+use lib.ListN.{length, getD, take, drop, List·getD-append}
 use lib.Seq.{drop-at, take-append-add}
 use Rattle.execution.specs.Steps.{runOf}
 use Rattle.session_text.specs.Inside.Buffers.{Fits}
@@ -11,7 +11,7 @@ use Rattle.session_text.specs.LineFormats.{frontFormats, formatOf}
 use Rattle.session_text.specs.Laws.{OnlyGoodIsRead}
 use Rattle.session_text.specs.Parsing.{good, bad, parsed}
 use Rattle.session_text.specs.Printing.{badText}
-use Rattle.session_text.specs.Run.{Start, ranOf, simulationOf, startOf, wordNumbers}
+use Rattle.session_text.specs.Run.{Start, ranOf, simulationOf, startOf}
 use Rattle.session_text.specs.Session.{answerText, ranText}
 use Rattle.session_text.proofs.OnlyGoodSessions.{only-good-is-read}
 
@@ -50,9 +50,9 @@ module _ (s front words : List ℕ) (n : ℕ) (long : length front ≡ 9) (enoug
   same-start =
       rw (at 0 (omega arith), at 1 (omega arith), at 2 (omega arith), at 3 (omega arith), at 4 (omega arith), at 5 (omega arith), at 6 (omega arith), at 7 (omega arith), at 8 (omega arith))
 
-  same-words : wordNumbers (front ++ take (n - 9) words) ≡ take (n - 9) words
+  same-words : drop 9 (front ++ take (n - 9) words) ≡ take (n - 9) words
   same-words = drop-at front (take (n - 9) words) 9 long
 
   pub answer-good : answerText s ≡ ranText (runOf (simulationOf (startOf front)) (take (n - 9) words))
   unfolding answerText ranOf
-  answer-good = rw says (ap ranText (ap (λ (start : Start). runOf (simulationOf start) (wordNumbers (front ++ take (n - 9) words))) same-start ∙ ap (runOf (simulationOf (startOf front))) same-words))
+  answer-good = rw says (ap ranText (ap (λ (start : Start). runOf (simulationOf start) (drop 9 (front ++ take (n - 9) words))) same-start ∙ ap (runOf (simulationOf (startOf front))) same-words))

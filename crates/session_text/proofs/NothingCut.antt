@@ -4,7 +4,7 @@ use mathlib.Core.Bool.{Bool, true, false, cond}
 use mathlib.Core.List.{List, [], _∷_}
 use mathlib.Core.Path.{_≡_, refl}
 use native.Mathlib.Omega.{arith}
-use lib.ListN.{length, length-drop}
+use lib.ListN.{length, drop, length-drop}
 use Rattle.machine.specs.declared.Code.{Code}
 use Rattle.machine.specs.declared.Code.the-variants.{Done, Setup, Undefined, SpAlign, Align, Outside, NoHistory, BadRecord, Field}
 use Rattle.machine.specs.Codes.{codeNumber}
@@ -14,7 +14,7 @@ use Rattle.execution.specs.Simulation.{Simulation, machineOf, wellFormed}
 use Rattle.execution.specs.Steps.{runOf, stepOf}
 use Rattle.execution.proofs.Kept.{step-keeps}
 use Rattle.session_text.specs.Laws.{NothingIsCut, OnlyGoodIsRead, Printable}
-use Rattle.session_text.specs.Run.{machineFor, ranOf, simulationOf, startOf, wordNumbers}
+use Rattle.session_text.specs.Run.{machineFor, ranOf, simulationOf, startOf}
 use Rattle.session_text.proofs.OnlyGoodSessions.{only-good-is-read}
 
 code-small : (code : Code) → codeNumber code < 16
@@ -53,13 +53,13 @@ formed-flags s h = state-status _ _ _ _ (setup-state (machineOf s) _ _ _ h) .0
 abbrev start : List ℕ → Simulation
 start v = simulationOf (startOf v)
 
-module _ (v : List ℕ) (few : length (wordNumbers v) ≤ 256) where
-  by-setup : (b : Bool) → wellFormed (start v) ≡ b → Printable (cond b (inOrder stepOf (start v) (wordNumbers v)) (returned Setup 0 (start v)))
+module _ (v : List ℕ) (few : length (drop 9 v) ≤ 256) where
+  by-setup : (b : Bool) → wellFormed (start v) ≡ b → Printable (cond b (inOrder stepOf (start v) (drop 9 v)) (returned Setup 0 (start v)))
   unfolding simulationOf machineFor
   by-setup true h =
-      let ran = run-kept (start v) (wordNumbers v) h in
-      let flags = formed-flags (inOrder stepOf (start v) (wordNumbers v) .after) (ran .formed) in
-      record { count = omega (arith, ran .few); code = code-small (inOrder stepOf (start v) (wordNumbers v) .answer .code); nzcv = omega arith }
+      let ran = run-kept (start v) (drop 9 v) h in
+      let flags = formed-flags (inOrder stepOf (start v) (drop 9 v) .after) (ran .formed) in
+      record { count = omega (arith, ran .few); code = code-small (inOrder stepOf (start v) (drop 9 v) .answer .code); nzcv = omega arith }
   by-setup false h = record { count = omega arith; code = omega arith; nzcv = omega arith }
 
 pub nothing-is-cut : NothingIsCut

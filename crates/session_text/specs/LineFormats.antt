@@ -15,30 +15,11 @@ pub record LineFormat : Type 0 where
 abbrev pub lineFor : LineFormat → ℕ → List ℕ
 lineFor format v = lineText (format .key) (format .digits) v
 
--- any number of 16 digits, and of 4
-
+-- any number of 16 digits
 abbrev pub longFormat : List ℕ → LineFormat
 longFormat key = record { key = key; digits = 16; most = 0xffff_ffff_ffff_ffff }
 
-abbrev pub shortFormat : List ℕ → LineFormat
-shortFormat key = record { key = key; digits = 4; most = 0xffff }
-
--- the lines of a session, by key
-
-abbrev pub baseFormat : LineFormat
-baseFormat = longFormat (ascii "base=")
-
-abbrev pub granulesFormat : LineFormat
-granulesFormat = record { key = ascii "granules="; digits = 4; most = 0x400 }
-
-abbrev pub accessFormat : LineFormat
-accessFormat = record { key = ascii "access="; digits = 1; most = 1 }
-
-abbrev pub excludeFormat : LineFormat
-excludeFormat = shortFormat (ascii "exclude=")
-
-abbrev pub seedFormat : LineFormat
-seedFormat = shortFormat (ascii "seed=")
+-- the lines of registers, read and printed
 
 abbrev pub x0Format : LineFormat
 x0Format = longFormat (ascii "x0=")
@@ -58,7 +39,12 @@ wordFormat = record { key = ascii "word="; digits = 8; most = 0xffff_ffff }
 -- the nine lines at the front, in their order
 unfoldable pub frontFormats : List LineFormat
 frontFormats =
-    baseFormat ∷ granulesFormat ∷ accessFormat ∷ excludeFormat ∷ seedFormat ∷ x0Format ∷ x1Format ∷ x2Format ∷ spFormat ∷ []
+    longFormat (ascii "base=")
+    ∷ record { key = ascii "granules="; digits = 4; most = 0x400 }
+    ∷ record { key = ascii "access="; digits = 1; most = 1 }
+    ∷ record { key = ascii "exclude="; digits = 4; most = 0xffff }
+    ∷ record { key = ascii "seed="; digits = 4; most = 0xffff }
+    ∷ x0Format ∷ x1Format ∷ x2Format ∷ spFormat ∷ []
 
 -- the format of the line with index i, from 0: the nine, then words
 unfoldable pub formatOf : ℕ → LineFormat

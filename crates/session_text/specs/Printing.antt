@@ -15,9 +15,7 @@ badText number = lineText (ascii "bad=") 4 number
 
 -- done=, how many words were done, and code=
 unfoldable pub answerLines : ℕ → Code → List ℕ
-answerLines count code =
-    lineText (ascii "done=") 4 count
-    ++ lineText (ascii "code=") 1 (codeNumber code)
+answerLines count code = lineText (ascii "done=") 4 count ++ lineText (ascii "code=") 1 (codeNumber code)
 
 -- x0=, x1=, x2= and sp=, as they are read
 unfoldable pub registerLines : List ℕ → List ℕ

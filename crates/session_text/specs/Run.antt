@@ -35,10 +35,6 @@ startOf v =
       sp = getD v 8 0;
     }
 
--- the numbers of the word lines
-abbrev pub wordNumbers : List ℕ → List ℕ
-wordNumbers v = drop 9 v
-
 -- all else is as in a fresh machine
 unfoldable pub machineFor : Start → Machine
 machineFor start =
@@ -61,6 +57,6 @@ simulationOn start bytes tags = simulation (machineFor start) (take (16 * start 
 unfoldable pub simulationOf : Start → Simulation
 simulationOf start = simulationOn start (replicate 16384 0) (replicate 1024 0)
 
--- the words are run, all in one run
+-- the words of the lines behind the nine are run, all in one run
 unfoldable pub ranOf : List ℕ → Returned Simulation
-ranOf v = runOf (simulationOf (startOf v)) (wordNumbers v)
+ranOf v = runOf (simulationOf (startOf v)) (drop 9 v)

@@ -11,8 +11,7 @@ use Rattle.session_text.specs.Printing.{badText, reportText}
 
 -- what is printed of a run: its count and code, and the registers and tags after it
 abbrev pub ranText : Returned Simulation → List ℕ
-ranText ran =
-    reportText (ran .answer .count) (ran .answer .code) (ran .after .state .registers) (ran .after .state .tags)
+ranText ran = reportText (ran .answer .count) (ran .answer .code) (ran .after .state .registers) (ran .after .state .tags)
 
 abbrev pub textFor : Parsed → List ℕ
 textFor (good v) = ranText (ranOf v)

@@ -14,9 +14,8 @@ use Rattle.machine.specs.State.{State, Typed}
 use Rattle.instructions.specs.WordOutcomes.{wordOutcome}
 use Rattle.instructions.proofs.TypedStates.{word-typed}
 use Rattle.instructions.proofs.WellFormed.{word-sound}
-use Rattle.history.specs.History.{History, capacity}
+use Rattle.history.specs.Ring.{History, capacity, pushed, popped}
 use Rattle.history.specs.Recording.{recordOf}
-use Rattle.history.specs.Ring.{pushed, popped}
 use Rattle.history.proofs.Recorded.{Restores, word-undone}
 use Rattle.execution.specs.Calls.{refused}
 use Rattle.simulator.specs.Demand3.{Demand3}

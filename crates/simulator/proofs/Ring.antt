@@ -8,8 +8,7 @@ use native.Mathlib.Nat.{add-zero, le-refl, mod-add-mod, add-mod-right, mod-eq-of
 use native.Mathlib.Omega.{arith}
 use lib.ListN.{length, take, drop, set, length-take}
 use lib.Seq.{sets, length-sets, sets-eq, take-at, drop-at, length-take-le, drop-set-add, take-set-le, drop-set-lt}
-use Rattle.history.specs.History.{History, capacity}
-use Rattle.history.specs.Ring.{advanced, previous, retreated, pushed, newest, popped}
+use Rattle.history.specs.Ring.{History, capacity, advanced, previous, retreated, pushed, newest, popped}
 use Rattle.history.specs.Inside.Slots.{CursorPlaced}
 use Rattle.history.proofs.Slots.{pushed-either}
 use Rattle.execution.proofs.Cursors.{advanced-placed, retreated-placed}

@@ -16,7 +16,7 @@ use Rattle.machine.specs.Setup.{sound, stateOk}
 use Rattle.machine.specs.State.{State}
 use Rattle.machine.proofs.Setup.{state-sizes}
 use Rattle.history.specs.BadRecords.{malformed}
-use Rattle.history.specs.History.{capacity}
+use Rattle.history.specs.Ring.{capacity}
 use Rattle.history.specs.Recording.{restored}
 use Rattle.history.specs.Records.{entryIn}
 use Rattle.history.specs.Inside.Slots.{CursorPlaced, historyOf}

@@ -28,5 +28,4 @@ walk (suc n) mask tag = walk n mask (past mask (next tag))
 
 -- mask all ones: 0; offset 0: the start, on past masked tags; otherwise the walk
 unfoldable pub chosen : ℕ → ℕ → ℕ → ℕ
-chosen start offset mask =
-    cond (eqb mask 65535) 0 (cond (eqb offset 0) (past mask start) (walk offset mask start))
+chosen start offset mask = cond (eqb mask 65535) 0 (cond (eqb offset 0) (past mask start) (walk offset mask start))

@@ -42,13 +42,13 @@ abbrev pub machineWith : Settings → List ℕ → ℕ → Cursor → Machine
 machineWith settings x status cursor = record { settings = settings; registers = record { x = x; status = statusIn status }; cursor = cursor }
 
 -- an effect recorded and applied
-abbrev pub carriedOut : Effect → Simulation → Simulation
-carriedOut e s = record { state = applied e (s .state); history = pushed (wordsOf (entryOn e (s .state))) (s .history) }
+abbrev pub effectTaken : Effect → Simulation → Simulation
+effectTaken e s = record { state = applied e (s .state); history = pushed (wordsOf (entryOn e (s .state))) (s .history) }
 
 -- a form on a setup that keeps the rules: refused by its access, or carried out
 unfoldable pub formTaken : Form → Simulation → Out Simulation
 formTaken f s =
-    whenDone (accessCode (s .state .settings .base) (length (s .state .tags)) (accessOf f (s .state))) (carriedOut (formEffect f (s .state)) s)
+    whenDone (accessCode (s .state .settings .base) (length (s .state .tags)) (accessOf f (s .state))) (effectTaken (formEffect f (s .state)) s)
 
 unfoldable pub decodedTaken : Decoded → Simulation → Out Simulation
 decodedTaken (Is f) s = formTaken f s
@@ -56,13 +56,13 @@ decodedTaken NoForm s = refused Undefined
 
 -- a register given a value
 abbrev pub registerTaken : ℕ → ℕ → ℕ → Simulation → Out Simulation
-registerTaken n v after s = done (carriedOut (registerEffect n v (statusIn after)) s)
+registerTaken n v after s = done (effectTaken (registerEffect n v (statusIn after)) s)
 
 -- a store at granules that are inside: the register written back and its value, the granules, their tag, and their data
 abbrev pub storeTaken : ℕ → ℕ → ℕ → ℕ → ℕ → Change → Simulation → Out Simulation
 storeTaken register value first granules tag change s =
     done
-    (carriedOut
+    (effectTaken
     (record {
       register = register;
       value = value;

@@ -8,7 +8,7 @@ use Rattle.memory.specs.Stores.{savedBytes}
 use Rattle.machine.specs.declared.Cursor.{Cursor}
 use Rattle.machine.specs.State.{State}
 use Rattle.instructions.specs.Inside.Effects.{Effect, writes}
-use Rattle.history.specs.History.{History}
+use Rattle.history.specs.Ring.{History}
 use Rattle.history.specs.Records.{Entry}
 use Rattle.history.specs.Recording.{entryFor}
 

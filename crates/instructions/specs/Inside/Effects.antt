@@ -4,7 +4,7 @@ use Prim.Native.Nat.{ℕ, _+_, _*_, _≤_}
 use mathlib.Core.Path.{_≡_}
 use mathlib.Core.Bool.{Bool, true, false, cond}
 use mathlib.Core.List.{List, []}
-use lib.ListN.{length}
+use lib.ListN.{length, replicate}
 use lib.Seq.{sets}
 use Rattle.isa.specs.declared.Mode.{Mode}
 use Rattle.isa.specs.declared.TwoSourceOp.{TwoSourceOp}
@@ -15,14 +15,13 @@ use Rattle.isa.specs.declared.Form.{Form}
 use Rattle.isa.specs.declared.Form.the-variants.{AddSub, TwoSource, Ldg, TagStore, Stgp}
 use Rattle.tag.specs.PointerTags.{tagOf, withTag}
 use Rattle.memory.specs.Locations.{indexOf, onward}
-use Rattle.memory.specs.Stores.{zeroBytes, pairBytes, equalTags}
+use Rattle.memory.specs.Stores.{zeroBytes, pairBytes}
 use Rattle.machine.specs.declared.Status.{Status}
 use Rattle.machine.specs.State.{State, stateOf, withNzcv}
 use Rattle.machine.specs.Registers.{xOrSp, xOrZero, orNone, written}
 use Rattle.instructions.specs.Accesses.{addressOf, roundedDown, granulesNamed, writebackTo}
-use Rattle.instructions.specs.Pointers.{addSubResult, difference, differenceFlags, withTagBit}
-use Rattle.instructions.specs.RandomTag.{irgTag, irgStatus, irgMask}
-use Rattle.instructions.specs.TagLoad.{loadedTag}
+use Rattle.instructions.specs.RegisterWords.{addSubResult, difference, differenceFlags, withTagBit, irgTag, irgStatus, maskOf}
+use Rattle.instructions.specs.MemoryWords.{loadedTag}
 
 -- what becomes of the data of an effect's granules
 pub data Change : Type 0 where
@@ -56,7 +55,7 @@ writes (pair low high) = true
 
 -- the tag bytes that n granules are given
 abbrev pub newTags : ℕ → Bool → ℕ → List ℕ
-newTags n tagged tag = cond tagged (equalTags n tag) []
+newTags n tagged tag = cond tagged (replicate n tag) []
 
 -- the state that an effect leaves
 abbrev pub applied : Effect → State → State
@@ -90,7 +89,7 @@ twoSourceEffect Subps d n m s =
     (withNzcv (differenceFlags (xOrSp x n) (xOrSp x m)) (s .registers .status))
 twoSourceEffect Irg d n m s =
     let x = s .registers .x in
-    let mask = irgMask (s .settings) x m in
+    let mask = maskOf (s .settings) (xOrZero x m) in
     registerEffect d (withTag (xOrSp x n) (irgTag (s .settings) (s .registers .status) mask))
     (irgStatus (s .settings) (s .registers .status) mask)
 twoSourceEffect Gmi d n m s =

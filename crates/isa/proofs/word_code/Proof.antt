@@ -1,7 +1,7 @@
 -- `isa::word_code` meets its contract. Assumes nothing.
 use borrow.Author.Needs.{needs}
 use mathlib.Core.Path.{ap, _∙_}
-use Rattle.isa.specs.Answers.{decodedCode}
+use Rattle.isa.specs.Decoding.{decodedCode}
 use Rattle.isa.proofs.word_code.Statement.{statement}
 use Rattle.isa.proofs.word_code.Tie as tie
 

@@ -1,7 +1,7 @@
 -- `instructions::pointers::flags` meets its contract. Assumes nothing.
 use borrow.Author.Needs.{needs}
 use native.Mathlib.Omega.{arith}
-use Rattle.instructions.specs.Pointers.{extended}
+use Rattle.instructions.specs.RegisterWords.{extended}
 use Rattle.instructions.proofs.Differences.{complemented, difference-flags, extended-lt}
 use Rattle.instructions.proofs.pointers.flags.Statement.{statement}
 use Rattle.instructions.proofs.pointers.flags.Tie as tie

@@ -1,7 +1,7 @@
 -- `instructions::pointers::subtract` meets its contract. Assumes nothing.
 use borrow.Author.Needs.{needs}
 use native.Mathlib.Omega.{arith}
-use Rattle.instructions.specs.Pointers.{extended}
+use Rattle.instructions.specs.RegisterWords.{extended}
 use Rattle.instructions.proofs.Differences.{complemented, extended-lt}
 use Rattle.instructions.proofs.pointers.subtract.Statement.{statement}
 use Rattle.instructions.proofs.pointers.subtract.Tie as tie

@@ -3,7 +3,7 @@ use borrow.Author.Needs.{needs}
 use mathlib.Core.Path.{_≡_}
 use Prim.Native.Nat.{_-_}
 use lib.ListN.{length}
-use Rattle.replay.specs.Buffer.{Filled}
+use Rattle.replay.specs.Inside.Buffer.{Filled}
 use Rattle.replay.proofs.answers.put_bytes.Statement.{statement}
 use Rattle.replay.proofs.answers.put_bytes.Tie as tie
 

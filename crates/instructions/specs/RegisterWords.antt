@@ -1,15 +1,19 @@
--- ADDG, SUBG, SUBP, SUBPS and GMI (document 01, "What each word does"; document 001 for ADDG).
+-- ADDG, SUBG, SUBP, SUBPS, GMI and IRG (document 01, "What each word does"; document 001 for ADDG).
 use Prim.Native.Nat.{ℕ, _+_, _-_, _*_, _%_, _^_}
 use mathlib.Core.Bool.{cond}
+use mathlib.Core.List.{List}
 use lib.Dec.{eqb}
+use lib.Bits.{bitOr}
 use Rattle.bits.specs.Fields.{bitsAt, withBits}
 use Rattle.isa.specs.declared.AddSubOp.{AddSubOp}
 use Rattle.isa.specs.declared.AddSubOp.the-variants.{Addg, Subg}
 use Rattle.tag.specs.PointerTags.{tagOf, withTag}
 use Rattle.tag.specs.TagChoice.{chosen}
+use Rattle.tag.specs.RandomBits.{bitsDrawn, seedDrawn}
 use Rattle.machine.specs.declared.Settings.{Settings}
-use Rattle.machine.specs.State.{State, withNzcv, withStatus}
+use Rattle.machine.specs.State.{State, withNzcv, withStatus, withRgsr, withSeed}
 use Rattle.machine.specs.Registers.{xOrSp, xOrZero, toXOrSp, toXOrZero}
+use Rattle.machine.specs.declared.Status.{Status}
 
 -- the amount added or subtracted mod 2^64
 abbrev pub moved : AddSubOp → ℕ → ℕ → ℕ
@@ -86,3 +90,31 @@ gmi d n m s =
     let operand = xOrSp (s .registers .x) n in
     let mask = xOrZero (s .registers .x) m in
     toXOrZero d (withTagBit mask operand) s
+
+-- Exclude or the low 16 bits of Rm
+abbrev pub maskOf : Settings → ℕ → ℕ
+maskOf settings m = bitOr (settings .exclude) (bitsAt m 0 16)
+
+-- four random bits are the offset, RGSR's tag the start
+abbrev pub randomTag : Status → ℕ → ℕ
+randomTag status mask = chosen (status .rgsr) (bitsDrawn 4 (status .seed)) mask
+
+-- the chosen tag becomes RGSR's tag; the bits are drawn when all tags are masked too
+abbrev pub afterDraw : Status → ℕ → Status
+afterDraw status mask = withRgsr (randomTag status mask) (withSeed (seedDrawn 4 (status .seed)) status)
+
+-- with tag access off the tag is 0 and RGSR is untouched
+
+abbrev pub irgTag : Settings → Status → ℕ → ℕ
+irgTag settings status mask = cond (settings .access) (randomTag status mask) 0
+
+abbrev pub irgStatus : Settings → Status → ℕ → Status
+irgStatus settings status mask = cond (settings .access) (afterDraw status mask) status
+
+-- IRG
+abbrev pub irg : ℕ → ℕ → ℕ → State → State
+irg d n m s =
+    let operand = xOrSp (s .registers .x) n in
+    let mask = maskOf (s .settings) (xOrZero (s .registers .x) m) in
+    let tag = irgTag (s .settings) (s .registers .status) mask in
+    toXOrSp d (withTag operand tag) (withStatus (irgStatus (s .settings) (s .registers .status) mask) s)
