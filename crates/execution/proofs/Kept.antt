@@ -1,10 +1,9 @@
--- What a step keeps, a run of one word, and a run word by word. Assumes nothing.
-use Prim.Native.Nat.{ℕ, suc, _+_}
+-- What a step keeps, and a run of one word. Assumes nothing.
+use Prim.Native.Nat.{ℕ}
 use mathlib.Core.Bool.{Bool, true, false, cond, and-eq-true-iff}
 use mathlib.Core.List.{List, [], _∷_}
 use mathlib.Core.Logic.{_↔_}
 use mathlib.Core.Path.{_≡_, refl, sym, ap, _∙_, subst}
-use native.Mathlib.Nat.{add-suc, suc-add, add-zero, zero-add}
 use native.Mathlib.Omega.{arith}
 use borrow.Author.Tests.{eqb-false}
 use lib.ListN.{length}
@@ -124,24 +123,3 @@ one-step s w l e = go (answered s (stepOf s w)) (uncounted (stepOf s w)) (one-wo
         let code = ap (λ (k : Returned Simulation). k .answer .code) e ∙ same .0 in
         let after = ap (λ (k : Returned Simulation). k .after) e ∙ same .1 in
         λ i. returned (code i) (sym z i) (after i)
-
--- a run, where n words were done before
-
-abbrev pub plus : {X : Type 0} → ℕ → Returned X → Returned X
-plus n l = returned (l .answer .code) (n + l .answer .count) (l .after)
-
-pub plus-zero : {X : Type 0} (l : Returned X) → plus 0 l ≡ l
-plus-zero l = ap (λ (n : ℕ). returned (l .answer .code) n (l .after)) (zero-add (l .answer .count))
-
-module _ {X : Type 0} (step : X → ℕ → Out X) (i : ℕ) (x : X) where
-  pub run-ends : plus i (inOrder step x []) ≡ returned Done i x
-  unfolding inOrder
-  run-ends = rw add-zero
-
-  pub run-more : (y : X) (w : ℕ) (ws : List ℕ) → step x w ≡ done y → plus i (inOrder step x (w ∷ ws)) ≡ plus (suc i) (inOrder step y ws)
-  unfolding inOrder
-  run-more y w ws e = rw (inOrder, e, add-suc, suc-add)
-
-  pub run-stops : (code : Code) (w : ℕ) (ws : List ℕ) → step x w ≡ refused code → plus i (inOrder step x (w ∷ ws)) ≡ returned code i x
-  unfolding inOrder
-  run-stops code w ws e = rw (inOrder, e, add-zero)

@@ -4,7 +4,5 @@ pub mod Cursors
 pub mod Kept
 pub mod MemoryForms
 pub mod RegisterRecords
-pub mod Runs
-pub mod StepsBack
 pub mod StoreRecords
 pub mod Taking

@@ -26,10 +26,10 @@ use Rattle.simulator.specs.Playing.{callOf, codesOf, countsOf, listed, w
 use Rattle.execution.specs.Simulation.{Simulation, wellFormed}
 use Rattle.execution.specs.Steps.{stepOf, runOf, stepBackOf, simulator}
 use Rattle.simulator.specs.Inside.Playing.{Wrote}
-use Rattle.execution.specs.Inside.Taking.{undoneBy}
+use Rattle.stepping.specs.Inside.Made.{undoneBy}
 use Rattle.execution.proofs.Cursors.{placed, placed-ok, retreated-placed}
 use Rattle.execution.proofs.Kept.{well-formed, step-keeps, ill-formed}
-use Rattle.execution.proofs.StepsBack.{back-setup, back-none, back-undone}
+use Rattle.stepping.proofs.StepsBack.{back-setup, back-none, back-undone}
 
 -- what a call keeps
 

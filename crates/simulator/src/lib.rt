@@ -6,8 +6,6 @@ ghost use Rattle.execution.specs.Calls.{answered, returned};
 ghost use Rattle.execution.specs.Inside.Taking.{machineWith};
 ghost use Rattle.execution.specs.Simulation.{simulation};
 ghost use Rattle.execution.specs.Steps.{runOf, stepBackOf, stepOf};
-use execution::undoing;
-use execution::words;
 use history::status_words;
 use machine::Code;
 use machine::Cursor;
@@ -84,7 +82,7 @@ pub fn run(
         let cursor = machine.cursor;
         let mut x = machine.registers.x;
         let packed = status_words::pack(status);
-        let end = words::take_all(
+        let end = stepping::take_all(
             &mut x,
             settings,
             packed,
@@ -145,7 +143,7 @@ pub fn step_back(machine: Machine, bytes: &mut [u8], tags: &mut [u8], history: &
         let cursor = machine.cursor;
         let mut x = machine.registers.x;
         let packed = status_words::pack(status);
-        let end = undoing::back(&mut x, settings, packed, cursor, bytes, tags, history);
+        let end = stepping::back(&mut x, settings, packed, cursor, bytes, tags, history);
         let code = end.code;
         let moved = end.cursor;
         return Stepped {

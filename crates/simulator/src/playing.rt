@@ -9,20 +9,19 @@ ghost use Rattle.machine.specs.declared.Code.the-variants.{Setup};
 ghost use Rattle.machine.specs.Codes.{codeNumber};
 ghost use Rattle.history.specs.Inside.StatusWords.{IsStatus};
 ghost use Rattle.execution.specs.Calls.{call};
-ghost use Rattle.simulator.specs.Inside.Playing.{Lent, Wrote};
-ghost use Rattle.execution.specs.Inside.Taking.{Made, gathered};
-ghost use Rattle.simulator.specs.Playing.{AsPlain, allTaken, callOf, playCode, playNumber, playOf, played, wordsTaken};
+ghost use Rattle.execution.specs.Inside.Taking.{gathered};
 ghost use Rattle.execution.specs.Simulation.{simulation, wellFormed};
 ghost use Rattle.execution.specs.Steps.{simulator};
+ghost use Rattle.stepping.specs.Inside.Made.{Made};
+ghost use Rattle.simulator.specs.Inside.Playing.{Lent, Wrote};
+ghost use Rattle.simulator.specs.Playing.{AsPlain, allTaken, callOf, playCode, playNumber, playOf, played, wordsTaken};
 use super::machine_of;
-use execution::After;
-use execution::undoing;
-use execution::words;
 use history::status_words;
 use machine::Code;
 use machine::Cursor;
 use machine::Machine;
 use machine::Settings;
+use stepping::After;
 
 // The numbers of the calls: a step back, a step, and RUN + n for a run of n words.
 pub const BACK: usize = 0;
@@ -129,10 +128,10 @@ fn make_call(
         (λ status cursor. gathered settings (now (x .exit)) status (now (bytes .exit)) (now (tags .exit)) (now (history .exit)) cursor) ⌝ }
 {
     if number == BACK {
-        return undoing::back(x, settings, status, cursor, bytes, tags, &history[..]);
+        return stepping::back(x, settings, status, cursor, bytes, tags, &history[..]);
     }
     let n = words_taken(number);
-    let end = words::take_all(
+    let end = stepping::take_all(
         x,
         settings,
         status,

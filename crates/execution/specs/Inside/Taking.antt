@@ -12,7 +12,7 @@ use Rattle.isa.specs.declared.Form.{Form}
 use Rattle.isa.specs.declared.Decoded.{Decoded}
 use Rattle.isa.specs.declared.Decoded.the-variants.{Is}
 use Rattle.isa.specs.declared.Decoded.the-variants.{Undefined as NoForm}
-use Rattle.machine.specs.declared.Code.the-variants.{Undefined, BadRecord}
+use Rattle.machine.specs.declared.Code.the-variants.{Undefined}
 use Rattle.machine.specs.declared.Cursor.{Cursor}
 use Rattle.machine.specs.declared.Machine.{Machine}
 use Rattle.machine.specs.declared.Settings.{Settings}
@@ -21,15 +21,12 @@ use Rattle.machine.specs.State.{stateOf}
 use Rattle.instructions.specs.Accesses.{accessOf}
 use Rattle.instructions.specs.Inside.Effects.{Change, kept, zeroed, Effect, applied, registerEffect, formEffect}
 use Rattle.instructions.specs.Inside.Places.{accessCode}
-use Rattle.history.specs.BadRecords.{malformed}
-use Rattle.history.specs.Recording.{restored}
-use Rattle.history.specs.Records.{entryIn, wordsOf}
+use Rattle.history.specs.Records.{wordsOf}
 use Rattle.history.specs.Ring.{pushed}
 use Rattle.history.specs.Inside.Slots.{CursorPlaced, entryOn, historyOf}
 use Rattle.history.specs.Inside.StatusWords.{IsStatus, statusIn}
 use Rattle.execution.specs.declared.Taken.{Taken}
-use Rattle.execution.specs.declared.After.{After}
-use Rattle.execution.specs.Calls.{Out, refused, done, Returned, returned, answered, whenDone}
+use Rattle.execution.specs.Calls.{Out, refused, done, returned, answered, whenDone}
 use Rattle.execution.specs.Simulation.{Simulation}
 
 -- the parts put together
@@ -103,14 +100,3 @@ TookBeside taken out settings x status words cursor x′ words′ =
     (bytes tags : List ℕ)
     → let s = gathered settings x status bytes tags words cursor in
     Took taken s (out s) (λ status cursor. gathered settings x′ status bytes tags words′ cursor)
-
--- a call made: its answer, and what it left
-pub record Made (made : After) (result : Returned Simulation) (after : ℕ → Cursor → Simulation) : Type 0 where
-  pub same : returned (made .code) (made .count) (after (made .status) (made .cursor)) ≡ result
-  pub packed : IsStatus (made .status)
-
--- a record undone, with the cursor moved back to it
-unfoldable pub undoneBy : List ℕ → Cursor → Simulation → Out Simulation
-undoneBy r cursor s =
-    cond (malformed (length (s .state .tags)) r) (refused BadRecord)
-    (done (record { state = restored (entryIn r) (s .state); history = historyOf (s .history .words) cursor }))

@@ -5,7 +5,7 @@ use Rattle.machine.proofs.Setup.{setup-status}
 use Rattle.execution.specs.Simulation.{Simulation, simulation, wellFormed}
 use Rattle.execution.specs.Steps.{stepBackOf}
 use Rattle.execution.specs.Inside.Taking.{gathered}
-use Rattle.execution.proofs.StepsBack.{back-setup, uncounted}
+use Rattle.stepping.proofs.StepsBack.{back-setup, uncounted}
 use Rattle.simulator.proofs.step_back.Statement.{statement}
 use Rattle.simulator.proofs.step_back.Tie as tie
 

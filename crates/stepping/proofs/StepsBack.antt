@@ -11,12 +11,12 @@ use Rattle.machine.specs.declared.Cursor.{Cursor}
 use Rattle.machine.specs.Codes.{lowest}
 use Rattle.history.specs.BadRecords.{malformed}
 use Rattle.history.specs.Ring.{capacity, retreated, newest, popped}
 use Rattle.execution.specs.Calls.{Out, refused, done, whenDone, Returned, returned, answered}
 use Rattle.execution.specs.Simulation.{Simulation, wellFormed}
 use Rattle.execution.specs.Steps.{stepBackOf}
-use Rattle.execution.specs.Inside.Taking.{undoneBy}
+use Rattle.stepping.specs.Inside.Made.{undoneBy}
 use Rattle.execution.proofs.Cursors.{placed, retreated-placed}
 use Rattle.execution.proofs.Kept.{well-formed}
 
 module _ (s : Simulation) where
   pub back-setup : wellFormed s ≡ false → stepBackOf s ≡ refused Setup

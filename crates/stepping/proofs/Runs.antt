@@ -1,17 +1,39 @@
 -- A run taken word by word. Assumes nothing.
 use Prim.Native.Nat.{ℕ, suc, _+_, _≤_, _<_}
 use mathlib.Core.Bool.{true}
-use mathlib.Core.List.{List, _∷_}
+use mathlib.Core.List.{List, [], _∷_}
 use mathlib.Core.Path.{_≡_, refl, sym, ap, _∙_}
+use native.Mathlib.Nat.{add-suc, suc-add, add-zero, zero-add}
 use native.Mathlib.Numerals.{add-one}
 use lib.ListN.{length, drop, getD, drop-of-length-le}
 use lib.Seq.{drop-cons}
 use Rattle.machine.specs.declared.Code.{Code}
 use Rattle.machine.specs.declared.Code.the-variants.{Done}
-use Rattle.execution.specs.Calls.{returned, refused, done, inOrder}
+use Rattle.execution.specs.Calls.{Out, Returned, returned, refused, done, inOrder}
 use Rattle.execution.specs.Simulation.{Simulation, wellFormed}
 use Rattle.execution.specs.Steps.{stepOf}
-use Rattle.execution.proofs.Kept.{Kept, step-kept, plus, plus-zero, run-ends, run-more, run-stops}
+use Rattle.execution.proofs.Kept.{Kept, step-kept}
+
+-- a run, where n words were done before
+
+abbrev pub plus : {X : Type 0} → ℕ → Returned X → Returned X
+plus n l = returned (l .answer .code) (n + l .answer .count) (l .after)
+
+pub plus-zero : {X : Type 0} (l : Returned X) → plus 0 l ≡ l
+plus-zero l = ap (λ (n : ℕ). returned (l .answer .code) n (l .after)) (zero-add (l .answer .count))
+
+module _ {X : Type 0} (step : X → ℕ → Out X) (i : ℕ) (x : X) where
+  pub run-ends : plus i (inOrder step x []) ≡ returned Done i x
+  unfolding inOrder
+  run-ends = rw add-zero
+
+  pub run-more : (y : X) (w : ℕ) (ws : List ℕ) → step x w ≡ done y → plus i (inOrder step x (w ∷ ws)) ≡ plus (suc i) (inOrder step y ws)
+  unfolding inOrder
+  run-more y w ws e = rw (inOrder, e, add-suc, suc-add)
+
+  pub run-stops : (code : Code) (w : ℕ) (ws : List ℕ) → step x w ≡ refused code → plus i (inOrder step x (w ∷ ws)) ≡ returned code i x
+  unfolding inOrder
+  run-stops code w ws e = rw (inOrder, e, add-zero)
 
 module _ (words : List ℕ) (start : Simulation) where
   -- before the word at i, with i words done: what is left of the run is the run

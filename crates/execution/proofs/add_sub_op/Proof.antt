@@ -1,8 +1,8 @@
--- `execution::words::add_sub_op` meets its contract. Assumes nothing.
+-- `execution::add_sub_op` meets its contract. Assumes nothing.
 use borrow.Author.Needs.{needs}
 use mathlib.Core.Logic.{⊎-elim}
-use Rattle.execution.proofs.words.add_sub_op.Statement.{statement}
-use Rattle.execution.proofs.words.add_sub_op.Tie as tie
+use Rattle.execution.proofs.add_sub_op.Statement.{statement}
+use Rattle.execution.proofs.add_sub_op.Tie as tie
 
 returns : tie.Need-returns
 returns c = search needs

@@ -1,11 +1,11 @@
--- `execution::undoing::back` meets its contract. Assumes nothing.
+-- `stepping::undoing::back` meets its contract. Assumes nothing.
 use borrow.Author.Needs.{needs}
 use Rattle.execution.specs.Simulation.{Simulation}
 use Rattle.execution.specs.Inside.Taking.{gathered}
-use Rattle.execution.proofs.StepsBack.{back-none, back-cursor, back-slot, back-undone}
+use Rattle.stepping.proofs.StepsBack.{back-none, back-cursor, back-slot, back-undone}
 use Rattle.execution.proofs.Taking.{sizes}
-use Rattle.execution.proofs.undoing.back.Statement.{statement}
-use Rattle.execution.proofs.undoing.back.Tie as tie
+use Rattle.stepping.proofs.undoing.back.Statement.{statement}
+use Rattle.stepping.proofs.undoing.back.Tie as tie
 
 returns : tie.Need-returns
 returns c =

@@ -1,4 +1,4 @@
--- `execution::undoing::undo_at` meets its contract. Assumes nothing.
+-- `stepping::undoing::undo_at` meets its contract. Assumes nothing.
 use borrow.Author.Needs.{needs}
 use Prim.Native.Nat.{_+_, _*_, _-_}
 use mathlib.Core.Bool.{true, false}
@@ -9,10 +9,10 @@ use Rattle.machine.specs.declared.Code.the-variants.{Done}
 use Rattle.history.specs.BadRecords.{malformed}
 use Rattle.history.specs.Inside.Slots.{historyOf}
 use Rattle.history.specs.Inside.StatusWords.{statusIn}
 use Rattle.execution.specs.Calls.{returned}
-use Rattle.execution.specs.Inside.Taking.{undoneBy}
-use Rattle.execution.proofs.undoing.undo_at.Statement.{statement}
-use Rattle.execution.proofs.undoing.undo_at.Tie as tie
+use Rattle.stepping.specs.Inside.Made.{undoneBy}
+use Rattle.stepping.proofs.undoing.undo_at.Statement.{statement}
+use Rattle.stepping.proofs.undoing.undo_at.Tie as tie
 
 mul-at : tie.Need-mul-at
 mul-at c = search needs

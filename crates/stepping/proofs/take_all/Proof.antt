@@ -1,4 +1,4 @@
--- `execution::words::take_all` meets its contract. The loop's invariant: the run is what is left of it, with as many words done as are
+-- `stepping::take_all` meets its contract. The loop's invariant: the run is what is left of it, with as many words done as are
 -- passed, and a status that is one. The measure is the words left. Assumes nothing.
 use borrow.Author.Needs.{needs}
 use Prim.Native.Nat.{_-_, _≤_}
@@ -6,13 +6,13 @@ use mathlib.Core.Path.{_≡_, sym, ap, _∙_}
 use native.Mathlib.Omega.{arith}
 use lib.ListN.{length}
 use Rattle.history.specs.Inside.StatusWords.{IsStatus}
 use Rattle.execution.specs.Calls.{returned}
 use Rattle.execution.specs.Simulation.{Simulation}
 use Rattle.execution.specs.Inside.Taking.{gathered}
 use Rattle.execution.proofs.Kept.{took-done, took-refused}
-use Rattle.execution.proofs.Runs.{Reached, at-start, at-end, at-refusal, one-on}
-use Rattle.execution.proofs.words.take_all.Statement.{statement}
-use Rattle.execution.proofs.words.take_all.Tie as tie
+use Rattle.stepping.proofs.Runs.{Reached, at-start, at-end, at-refusal, one-on}
+use Rattle.stepping.proofs.take_all.Statement.{statement}
+use Rattle.stepping.proofs.take_all.Tie as tie
 
 abbrev Inv-loop : tie.InvT-loop
 Inv-loop x₀ settings status words bytes₀ tags₀ history₀ reached₀ moved₀ i₀ x bytes tags history reached moved i =

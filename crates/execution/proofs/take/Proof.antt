@@ -1,4 +1,4 @@
--- `execution::words::take` meets its contract. Assumes nothing.
+-- `execution::take` meets its contract. Assumes nothing.
 use borrow.Author.Needs.{needs}
 use Prim.Native.Nat.{ℕ, _≤_}
 use mathlib.Core.Logic.{_⊎_, inl, inr}
@@ -15,8 +15,8 @@ use Rattle.isa.proofs.Decoding.{decode-add-sub, decode-two-source, decode-subps
 use Rattle.execution.specs.Simulation.{Simulation}
 use Rattle.execution.specs.Inside.Taking.{decodedTaken, gathered}
 use Rattle.execution.proofs.Taking.{decoded-step, ready, sizes}
-use Rattle.execution.proofs.words.take.Statement.{statement}
-use Rattle.execution.proofs.words.take.Tie as tie
+use Rattle.execution.proofs.take.Statement.{statement}
+use Rattle.execution.proofs.take.Tie as tie
 
 -- the mode of STGP stands at bits 24:23
 
