@@ -9,7 +9,7 @@ use machine::Cursor;
 use machine::Machine;
 
 // What rounds leave: the machine, and how many words and steps back were done.
-pub struct Progress {
+pub(crate) struct Progress {
     pub machine: Machine,
     pub done: u64,
 }
@@ -123,7 +123,7 @@ fn round(
 }
 
 // Each round starts from the first machine, but for the cursor, which stays as the last one left it.
-pub fn all_rounds(
+pub(crate) fn all_rounds(
     rounds: u64,
     kind: u64,
     first: Machine,

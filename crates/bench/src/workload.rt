@@ -7,36 +7,36 @@ use machine::Registers;
 use machine::Settings;
 use machine::Status;
 
-pub const MOST_WORDS: usize = 65536;
+pub(crate) const MOST_WORDS: usize = 65536;
 
-pub const MOST_BACKS: u64 = 1024;
+pub(crate) const MOST_BACKS: u64 = 1024;
 
 // As many as a list has if each word is a step.
-pub const MOST_CALLS: usize = 66560;
+pub(crate) const MOST_CALLS: usize = 66560;
 
-pub const MOST_SLOTS: u64 = 1024;
+pub(crate) const MOST_SLOTS: u64 = 1024;
 
-pub const MOST_GRANULES: u64 = 1024;
+pub(crate) const MOST_GRANULES: u64 = 1024;
 
 // So many bytes come before the words.
-pub const HEAD: usize = 352;
+pub(crate) const HEAD: usize = 352;
 
 // Four bytes more than the longest workload has, so that a longer one is seen and its last word can be read as half of eight
 // bytes.
-pub const ROOM: usize = 262500;
+pub(crate) const ROOM: usize = 262500;
 
 // The places of the numbers; that of register i is X + i.
-pub const ROUNDS: usize = 0;
+pub(crate) const ROUNDS: usize = 0;
 
-pub const KIND: usize = 1;
+pub(crate) const KIND: usize = 1;
 
-pub const BACKS: usize = 2;
+pub(crate) const BACKS: usize = 2;
 
-pub const SLOTS: usize = 3;
+pub(crate) const SLOTS: usize = 3;
 
-pub const WORDS: usize = 4;
+pub(crate) const WORDS: usize = 4;
 
-pub const GRANULES: usize = 5;
+pub(crate) const GRANULES: usize = 5;
 
 const BASE: usize = 6;
 
@@ -53,11 +53,11 @@ const SEED: usize = 11;
 const X: usize = 12;
 
 // The kinds of a round: a run, a step for each word, or a list with a run or a step for each word, and steps back.
-pub const RUN: u64 = 0;
+pub(crate) const RUN: u64 = 0;
 
-pub const STEPS: u64 = 1;
+pub(crate) const STEPS: u64 = 1;
 
-pub const LIST_OF_A_RUN: u64 = 2;
+pub(crate) const LIST_OF_A_RUN: u64 = 2;
 
 const LIST_OF_STEPS: u64 = 3;
 
@@ -68,7 +68,7 @@ fn eight_bytes(input: &[u8], at: usize) -> u64
 }
 
 // The number at a place.
-pub fn number(input: &[u8; ROOM], place: usize) -> u64
+pub(crate) fn number(input: &[u8; ROOM], place: usize) -> u64
     requires { ⌜ place < 44 ⌝ }
 {
     eight_bytes(input, 8 * place)
@@ -83,7 +83,7 @@ fn kind_ok(kind: u64, backs: u64) -> bool {
 }
 
 // Whether the settings and the status are within their widths.
-pub fn values_ok(input: &[u8; ROOM]) -> bool {
+pub(crate) fn values_ok(input: &[u8; ROOM]) -> bool {
     if !kind_ok(number(input, KIND), number(input, BACKS)) {
         return false;
     }
@@ -113,7 +113,7 @@ fn registers(input: &[u8; ROOM]) -> [u64; 32] {
 }
 
 // The machine that each round starts from.
-pub fn start(input: &[u8; ROOM]) -> Machine {
+pub(crate) fn start(input: &[u8; ROOM]) -> Machine {
     let x = registers(input);
     Machine {
         settings: Settings {
@@ -134,7 +134,7 @@ pub fn start(input: &[u8; ROOM]) -> Machine {
 }
 
 // Reads the words, as many as there may be.
-pub fn unpack(input: &[u8; ROOM], words: &mut [u32; MOST_WORDS]) {
+pub(crate) fn unpack(input: &[u8; ROOM], words: &mut [u32; MOST_WORDS]) {
     let mut i = 0;
     while i < MOST_WORDS {
         words[i] = (eight_bytes(input, HEAD + 4 * i) % 0x1_0000_0000) as u32;
@@ -143,7 +143,7 @@ pub fn unpack(input: &[u8; ROOM], words: &mut [u32; MOST_WORDS]) {
 }
 
 // Puts the calls that take a list's words, a run or a step for each, and answers how many they are.
-pub fn put_calls(kind: u64, words: usize, calls: &mut [usize; MOST_CALLS]) -> usize
+pub(crate) fn put_calls(kind: u64, words: usize, calls: &mut [usize; MOST_CALLS]) -> usize
     requires { ⌜ words ≤ 65536 ⌝ }
     ensures { λ r. ⌜ r ≤ 65536 ⌝ }
 {

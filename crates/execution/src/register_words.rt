@@ -34,7 +34,8 @@ pub(crate) fn set(
     requires { ⌜ Ready (now history) cursor status ⌝ }
     requires { ⌜ IsStatus after ⌝ }
     ensures { λ r. let x′ = now (x .exit) in let words′ = now (history .exit) in
-        ⌜ ((settings : Settings) → TookBeside r (registerTaken n v after) settings (now (x .entry)) status (now (history .entry)) cursor x′ words′) ⌝ }
+        ⌜ ((settings : Settings) →
+        TookBeside r (registerTaken n v after) settings (now (x .entry)) status (now (history .entry)) cursor x′ words′) ⌝ }
 {
     let old = register_file::x_or_sp(&*x, n);
     let moved = history::push(history, cursor, n + status, old, 0, 0, 0, 0, 0);
@@ -79,7 +80,8 @@ pub(crate) fn add_sub(
 fn subp(x: &mut [u64; 32], status: u64, cursor: Cursor, w: u64, history: &mut [u64]) -> Taken
     requires { ⌜ Ready (now history) cursor status ⌝ }
     ensures { λ r. let x′ = now (x .exit) in let words′ = now (history .exit) in
-        ⌜ ((settings : Settings) → TookBeside r (decodedTaken (Is (twoSourceAt Subp w))) settings (now (x .entry)) status (now (history .entry)) cursor x′ words′) ⌝ }
+        ⌜ ((settings : Settings) →
+        TookBeside r (decodedTaken (Is (twoSourceAt Subp w))) settings (now (x .entry)) status (now (history .entry)) cursor x′ words′) ⌝ }
 {
     let d = bits::field(w, 0, 5);
     let n = bits::field(w, 5, 5);
@@ -102,7 +104,8 @@ fn subp(x: &mut [u64; 32], status: u64, cursor: Cursor, w: u64, history: &mut [u
 fn gmi(x: &mut [u64; 32], status: u64, cursor: Cursor, w: u64, history: &mut [u64]) -> Taken
     requires { ⌜ Ready (now history) cursor status ⌝ }
     ensures { λ r. let x′ = now (x .exit) in let words′ = now (history .exit) in
-        ⌜ ((settings : Settings) → TookBeside r (decodedTaken (Is (twoSourceAt Gmi w))) settings (now (x .entry)) status (now (history .entry)) cursor x′ words′) ⌝ }
+        ⌜ ((settings : Settings) →
+        TookBeside r (decodedTaken (Is (twoSourceAt Gmi w))) settings (now (x .entry)) status (now (history .entry)) cursor x′ words′) ⌝ }
 {
     let d = bits::field(w, 0, 5);
     let n = bits::field(w, 5, 5);
@@ -178,7 +181,8 @@ pub(crate) fn two_source(
 ) -> Taken
     requires { ⌜ Ready (now history) cursor status ⌝ }
     ensures { λ r. let x′ = now (x .exit) in let words′ = now (history .exit) in
-        ⌜ TookBeside r (decodedTaken (ifBit21 w 0 (twoSourceBranch (bitsAt w 10 6) w))) settings (now (x .entry)) status (now (history .entry)) cursor x′ words′ ⌝ }
+        ⌜ TookBeside r (decodedTaken (ifBit21 w 0 (twoSourceBranch (bitsAt w 10 6) w)))
+        settings (now (x .entry)) status (now (history .entry)) cursor x′ words′ ⌝ }
 {
     if bits::field(w, 21, 1) == 0 {
         let opcode = bits::field(w, 10, 6);
@@ -211,7 +215,8 @@ pub(crate) fn subps(
 ) -> Taken
     requires { ⌜ Ready (now history) cursor status ⌝ }
     ensures { λ r. let x′ = now (x .exit) in let words′ = now (history .exit) in
-        ⌜ TookBeside r (decodedTaken (ifBit21 w 0 (subpsBranch (bitsAt w 10 6) w))) settings (now (x .entry)) status (now (history .entry)) cursor x′ words′ ⌝ }
+        ⌜ TookBeside r (decodedTaken (ifBit21 w 0 (subpsBranch (bitsAt w 10 6) w)))
+        settings (now (x .entry)) status (now (history .entry)) cursor x′ words′ ⌝ }
 {
     if bits::field(w, 21, 1) + bits::field(w, 10, 6) != 0 {
         return Taken {

@@ -99,7 +99,7 @@ fn replay(
 )
     requires { ⌜ 128 ≤ length (now out) ⌝ }
 {
-    let n = input::read(input, b"replay: cannot read standard input");
+    let n = stdio::read(input, b"replay: cannot read standard input");
     if n == input.len() {
         write_bad(0, out);
         return;

@@ -7,14 +7,8 @@ ghost use Prim.Native.Nat.{_+_, _≤_};
 ghost use lib.ListN.{length};
 ghost use Rattle.replay.specs.Inside.Buffer.{Filled};
 
-// Writes bytes to standard output. A write that fails is told on standard error, and is the last: what is written stays the
-// beginning of the answer, without a gap, and the failure is told once.
 pub(crate) fn write(bytes: &[u8]) {
-    if !io::write_all(libc::STDOUT_FILENO, bytes) {
-        os::fail(b"replay: cannot write standard output");
-        libc::close(libc::STDOUT_FILENO);
-        libc::close(libc::STDERR_FILENO);
-    }
+    stdio::write(bytes, b"replay: cannot write standard output");
 }
 
 // Where the next line goes, with room for the longest. A buffer that has no such room is written first.

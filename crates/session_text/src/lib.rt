@@ -35,7 +35,8 @@ fn answer_whole(input: &[u8], out: &mut [u8]) -> usize
 pub fn answer(room: &[u8; 3733], read: usize, out: &mut [u8; 1134]) -> usize
     ensures { λ r. ⌜ Lendable r (now (out .exit)) ⌝ }
     ensures { λ r. ⌜ ((input : List ℕ) → ReadOf (now (room .entry)) read input → r ≡ length (answerText input)) ⌝ }
-    ensures { λ _. ⌜ ((input : List ℕ) → ReadOf (now (room .entry)) read input → now (out .exit) ≡ sets (now (out .entry)) 0 (answerText input)) ⌝ }
+    ensures { λ _. ⌜ ((input : List ℕ) → ReadOf (now (room .entry)) read input
+        → now (out .exit) ≡ sets (now (out .entry)) 0 (answerText input)) ⌝ }
 {
     let bytes: &[u8] = room;
     let n = if read < 3733 { read } else { 3733 };

@@ -36,7 +36,9 @@ fn run_on(front: &[u64], words: &[u32], bytes: &mut [u8], tags: &mut [u8], out: 
     requires { ⌜ length (now bytes) ≡ 16384 ⌝ }
     requires { ⌜ length (now tags) ≡ 1024 ⌝ }
     requires { ⌜ 1134 ≤ length (now out) ⌝ }
-    ensures { λ r. ⌜ Printed r (now (out .entry)) (now (out .exit)) (ranText (runOf (simulationOn (startOf (now (front .entry))) (now (bytes .entry)) (now (tags .entry))) (now (words .entry)))) ⌝ }
+    ensures { λ r.
+        let start = simulationOn (startOf (now (front .entry))) (now (bytes .entry)) (now (tags .entry)) in
+        ⌜ Printed r (now (out .entry)) (now (out .exit)) (ranText (runOf start (now (words .entry)))) ⌝ }
 {
     let g = front[1] as usize;
     let start = machine_of(front);
@@ -57,7 +59,9 @@ fn run_on(front: &[u64], words: &[u32], bytes: &mut [u8], tags: &mut [u8], out: 
 pub(crate) fn run(front: &[u64], words: &[u32], out: &mut [u8]) -> usize
     requires { ⌜ Fits (now front) ⌝ }
     requires { ⌜ 1134 ≤ length (now out) ⌝ }
-    ensures { λ r. ⌜ Printed r (now (out .entry)) (now (out .exit)) (ranText (runOf (simulationOf (startOf (now (front .entry)))) (now (words .entry)))) ⌝ }
+    ensures { λ r.
+        let start = simulationOf (startOf (now (front .entry))) in
+        ⌜ Printed r (now (out .entry)) (now (out .exit)) (ranText (runOf start (now (words .entry)))) ⌝ }
 {
     let mut tags = [0u8; 1024];
     let mut bytes = [0u8; 16384];

@@ -177,7 +177,8 @@ fn play_all(
     ensures { λ r.
         let before = gathered settings (now (x .entry)) status (now (bytes .entry)) (now (tags .entry)) (now (history .entry)) cursor in
         let after = gathered settings (now (x .exit)) (r .status) (now (bytes .exit)) (now (tags .exit)) (now (history .exit)) (r .cursor) in
-        ⌜ Wrote before (now (calls .entry)) (now (words .entry)) (now (codes .entry)) (now (counts .entry)) (now (codes .exit)) (now (counts .exit)) after ⌝ }
+        ⌜ Wrote before (now (calls .entry)) (now (words .entry)) (now (codes .entry)) (now (counts .entry))
+        (now (codes .exit)) (now (counts .exit)) after ⌝ }
 {
     let mut reached = status;
     let mut moved = cursor;
@@ -241,7 +242,8 @@ fn play_list(
     ensures { λ r.
         let before = simulation machine (now (bytes .entry)) (now (tags .entry)) (now (history .entry)) in
         let after = simulation r (now (bytes .exit)) (now (tags .exit)) (now (history .exit)) in
-        ⌜ Wrote before (now (calls .entry)) (now (words .entry)) (now (codes .entry)) (now (counts .entry)) (now (codes .exit)) (now (counts .exit)) after ⌝ }
+        ⌜ Wrote before (now (calls .entry)) (now (words .entry)) (now (codes .entry)) (now (counts .entry))
+        (now (codes .exit)) (now (counts .exit)) after ⌝ }
 {
     if machine::setup_ok(machine, bytes.len(), tags.len(), history.len()) {
         let settings = machine.settings;

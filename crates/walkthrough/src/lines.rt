@@ -11,23 +11,27 @@ fn long(n: u32) -> u64 {
     n as u64
 }
 
+fn write(bytes: &[u8]) {
+    stdio::write(bytes, b"walkthrough: cannot write standard output");
+}
+
 // The start of a run's line: how many words were done.
 pub(crate) fn write_run(count: usize) {
     let mut out = *b"run, 0 words done";
     text::put_hex(&mut out, 5, 1, count as u64);
-    io::write_all(1, &out);
+    write(&out);
 }
 
 // The start of a step's line: its word.
 pub(crate) fn write_step(word: u32) {
     let mut out = *b"step 00000000";
     text::put_hex(&mut out, 5, 8, word as u64);
-    io::write_all(1, &out);
+    write(&out);
 }
 
 // The start of a step back's line.
 pub(crate) fn write_back() {
-    io::write_all(1, b"back");
+    write(b"back");
 }
 
 // The rest of a call's line: its code, and X0 and the tag bytes after it.
@@ -40,7 +44,7 @@ pub(crate) fn write_after(code: Code, machine: Machine, tags: &[u8; 4]) {
     text::put_hex(&mut out, 41, 2, wide(tags[1]));
     text::put_hex(&mut out, 44, 2, wide(tags[2]));
     text::put_hex(&mut out, 47, 2, wide(tags[3]));
-    io::write_all(1, &out);
+    write(&out);
 }
 
 // Where X0 left its block, and the tag byte there.
@@ -49,7 +53,7 @@ pub(crate) fn write_place(machine: Machine, tag: u8) {
     let x = machine.registers.x;
     text::put_hex(&mut out, 23, 16, x[0]);
     text::put_hex(&mut out, 63, 2, wide(tag));
-    io::write_all(1, &out);
+    write(&out);
 }
 
 // A list of calls: its code, how many calls were played, the code of each, and X0 after them.
@@ -65,5 +69,5 @@ pub(crate) fn write_list(code: PlayCode, count: usize, codes: &[u32; 8], machine
         text::put_hex(&mut out, 40 + 2 * i, 1, long(codes[i]));
         i += 1;
     }
-    io::write_all(1, &out);
+    write(&out);
 }

@@ -1,12 +1,12 @@
--- `input::read` meets its contract. The loop's invariant: what is done lies within the room, which keeps its length. Assumes nothing.
+-- `stdio::read` meets its contract. The loop's invariant: what is done lies within the room, which keeps its length. Assumes nothing.
 use borrow.Author.Needs.{needs}
 use Prim.Native.Nat.{_≤_, _-_}
 use mathlib.Core.Path.{_≡_}
 use native.Mathlib.Omega.{arith}
 use lib.ListN.{length}
 use Rattle.io.proofs.Counting.{counts}
-use Rattle.input.proofs.read.Statement.{statement}
-use Rattle.input.proofs.read.Tie as tie
+use Rattle.stdio.proofs.read.Statement.{statement}
+use Rattle.stdio.proofs.read.Tie as tie
 
 abbrev Inv-loop : tie.InvT-loop
 Inv-loop room₀ failed done₀ room done = (done ≤ length room) × (length room ≡ length room₀)

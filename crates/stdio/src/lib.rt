@@ -1,4 +1,5 @@
-// Standard input, read for a program. A read that fails is told on standard error.
+// Standard input and output for a program. A read or a write that fails is told on standard error.
+ghost use mathlib.Core.Path.{_≡_};
 ghost use Prim.Native.Nat.{_≤_};
 ghost use lib.ListN.{length};
 ghost use Rattle.io.specs.Counts.{Counts};
@@ -28,4 +29,16 @@ pub fn read(room: &mut [u8], failed: &[u8]) -> usize
         done += more;
     }
     done
+}
+
+// Writes bytes to standard output. A write that fails is told on standard error, by failed and the system's reason, and is the last: what
+// is written stays the beginning of the answer, without a gap, and the failure is told once. That bytes are written no contract can say.
+pub fn write(bytes: &[u8], failed: &[u8])
+    ensures { λ _. ⌜ now (bytes .exit) ≡ now (bytes .entry) ⌝ }
+{
+    if !io::write_all(libc::STDOUT_FILENO, bytes) {
+        os::fail(failed);
+        libc::close(libc::STDOUT_FILENO);
+        libc::close(libc::STDERR_FILENO);
+    }
 }
