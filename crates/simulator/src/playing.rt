@@ -152,7 +152,7 @@ fn make_call(
 }
 
 // The status and the cursor after a list.
-struct Ended {
+struct AfterList {
     status: u64,
     cursor: Cursor,
 }
@@ -170,7 +170,7 @@ fn play_all(
     history: &mut [u64],
     codes: &mut [u32],
     counts: &mut [usize],
-) -> Ended
+) -> AfterList
     requires { ⌜ wellFormed (gathered settings (now x) status (now bytes) (now tags) (now history) cursor) ≡ true ⌝ }
     requires { ⌜ IsStatus status ⌝ }
     requires { ⌜ Lent (now calls) (length (now words)) (length (now codes)) (length (now counts)) ⌝ }
@@ -206,7 +206,7 @@ fn play_all(
         at += words_taken(number);
         i += 1;
     }
-    Ended {
+    AfterList {
         status: reached,
         cursor: moved,
     }
