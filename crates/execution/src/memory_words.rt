@@ -57,15 +57,7 @@ fn ldg(
         Placed::First(i) => {
             let tag = tag_load::load(settings, tags, i);
             let v = tag::with_tag(register_file::x_or_zero(&*x, t), tag);
-            register_words::set(
-                x,
-                status,
-                cursor,
-                register_file::or_none(t),
-                v,
-                status,
-                history,
-            )
+            register_words::set_or_drop(x, status, cursor, t, v, status, history)
         },
         Placed::Nowhere(code) => Taken {
             code: code,

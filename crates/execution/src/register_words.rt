@@ -1,6 +1,6 @@
 // Words that give a register a value and change no memory: each is recorded and carried out in one pass.
 ghost use mathlib.Core.Path.{_≡_};
-ghost use Prim.Native.Nat.{_≤_};
+ghost use Prim.Native.Nat.{_<_, _≤_};
 ghost use lib.ListN.{length};
 ghost use Rattle.bits.specs.Fields.{bitsAt};
 ghost use Rattle.isa.specs.declared.Decoded.the-variants.{Is};
@@ -8,6 +8,7 @@ ghost use Rattle.isa.specs.declared.TwoSourceOp.the-variants.{Gmi, Irg, Subp, S
 ghost use Rattle.isa.specs.Decoding.{twoSourceAt};
 ghost use Rattle.isa.specs.Inside.DecodingBranches.{addSubBranch, ifBit21, subpsBranch, twoSourceBranch};
 ghost use Rattle.machine.specs.declared.Settings.{Settings};
+ghost use Rattle.machine.specs.Registers.{orNone};
 ghost use Rattle.history.specs.Inside.StatusWords.{IsStatus};
 ghost use Rattle.execution.specs.Inside.Taking.{Ready, TookBeside, decodedTaken, registerTaken};
 use super::Taken;
@@ -45,6 +46,34 @@ pub(crate) fn set(
         status: after,
         cursor: moved,
     }
+}
+
+// The same, where 31 drops the write.
+pub(crate) fn set_or_drop(
+    x: &mut [u64; 32],
+    status: u64,
+    cursor: Cursor,
+    n: u64,
+    v: u64,
+    after: u64,
+    history: &mut [u64],
+) -> Taken
+    requires { ⌜ n < 32 ⌝ }
+    requires { ⌜ Ready (now history) cursor status ⌝ }
+    requires { ⌜ IsStatus after ⌝ }
+    ensures { λ r. let x′ = now (x .exit) in let words′ = now (history .exit) in
+        ⌜ ((settings : Settings) →
+        TookBeside r (registerTaken (orNone n) v after) settings (now (x .entry)) status (now (history .entry)) cursor x′ words′) ⌝ }
+{
+    set(
+        x,
+        status,
+        cursor,
+        register_file::or_none(n),
+        v,
+        after,
+        history,
+    )
 }
 
 // ADDG, SUBG: bits 15:14 are zero.
@@ -90,15 +119,7 @@ fn subp(x: &mut [u64; 32], status: u64, cursor: Cursor, w: u64, history: &mut [u
         register_file::x_or_sp(&*x, n),
         register_file::x_or_sp(&*x, m),
     );
-    set(
-        x,
-        status,
-        cursor,
-        register_file::or_none(d),
-        v,
-        status,
-        history,
-    )
+    set_or_drop(x, status, cursor, d, v, status, history)
 }
 
 fn gmi(x: &mut [u64; 32], status: u64, cursor: Cursor, w: u64, history: &mut [u64]) -> Taken
@@ -114,15 +135,7 @@ fn gmi(x: &mut [u64; 32], status: u64, cursor: Cursor, w: u64, history: &mut [u6
         register_file::x_or_zero(&*x, m),
         register_file::x_or_sp(&*x, n),
     );
-    set(
-        x,
-        status,
-        cursor,
-        register_file::or_none(d),
-        v,
-        status,
-        history,
-    )
+    set_or_drop(x, status, cursor, d, v, status, history)
 }
 
 fn irg(
@@ -230,13 +243,5 @@ pub(crate) fn subps(
     let right = register_file::x_or_sp(&*x, bits::field(w, 16, 5));
     let v = pointers::subtract(left, right);
     let after = status_words::with_nzcv(status, pointers::flags(left, right));
-    set(
-        x,
-        status,
-        cursor,
-        register_file::or_none(d),
-        v,
-        after,
-        history,
-    )
+    set_or_drop(x, status, cursor, d, v, after, history)
 }

@@ -9,7 +9,7 @@ use Rattle.isa.specs.declared.Form.the-variants.{Ldg}
 use Rattle.isa.specs.declared.Decoded.the-variants.{Is}
 use Rattle.isa.specs.Decoding.{ldgAt}
 use Rattle.instructions.proofs.Places.{load-inside}
-use Rattle.instructions.proofs.Within.{or-none-le}
+use Rattle.machine.specs.Registers.{orNone}
 use Rattle.execution.specs.Simulation.{Simulation}
 use Rattle.execution.specs.Inside.Taking.{decodedTaken, gathered, registerTaken}
 use Rattle.execution.proofs.MemoryForms.{ldg-first, refused-nowhere, took-refusal}
@@ -57,17 +57,8 @@ x-or-zero-requires c κs = search needs
 with-tag-requires : tie.Need-with-tag-requires
 with-tag-requires c κs = search needs
 
-or-none-requires : tie.Need-or-none-requires
-or-none-requires c κs = search needs
-
-set-requires : tie.Need-set-requires
-set-requires c κs =
-    let at-or-none = c .before in
-    let at-field = at-or-none .before .before .before .before .before .before .before .before .before .before .before .before .before .before .before in
-    let (sizes, ready) = at-field .before .before .before .pre in
-    let small : at-field .field .result ≤ 31 = rw (at-field .field .ensures) (omega arith) in
-    let register : at-or-none .or-none .result ≤ 32 = rw (at-or-none .or-none .ensures) (or-none-le (at-field .field .result) small) in
-    (register, (ready, ready .packed))
+set-or-drop-requires : tie.Need-set-or-drop-requires
+set-or-drop-requires c κs = search needs
 
 enum-known-placed-2 : tie.Need-enum-known-placed-2
 enum-known-placed-2 c = search needs
@@ -77,9 +68,8 @@ same-length c = search needs
 
 returns : tie.Need-returns
 returns c =
-    let at-set = c .before .before in
-    let at-or-none = at-set .before .before in
-    let at-with-tag = at-or-none .before .before in
+    let at-set-or-drop = c .before .before in
+    let at-with-tag = at-set-or-drop .before .before .before in
     let at-x-or-zero = at-with-tag .before in
     let at-load = at-x-or-zero .before .before in
     let at-placed = at-load .before .before in
@@ -96,10 +86,10 @@ returns c =
     let place = rw (at-x-or-sp .x-or-sp .ensures) at (at-place-load .place-load .ensures) in
     let before : List ℕ → Simulation = λ bytes. gathered (a .settings) (a .x .now) (a .status) bytes (a .tags .now) (a .history .now) (a .cursor) in
     let taken : (bytes : List ℕ) → decodedTaken (Is f) (before bytes)
-    ≡ registerTaken (at-or-none .or-none .result) (at-with-tag .with-tag .result) (a .status) (before bytes) =
-    λ bytes. rw (at-or-none .or-none .ensures, at-with-tag .with-tag .ensures, at-x-or-zero .x-or-zero .ensures, at-load .load .ensures .0)
+    ≡ registerTaken (orNone (at-field .field .result)) (at-with-tag .with-tag .result) (a .status) (before bytes) =
+    λ bytes. rw (at-with-tag .with-tag .ensures, at-x-or-zero .x-or-zero .ensures, at-load .load .ensures .0)
     (ldg-first (before bytes) (at-field .field .result) (at-field2 .field2 .result) (at-signed .signed .result) (told .0 .0) (sym place ∙ told .1)) in
-    λ bytes. rw (← form, taken bytes) (at-set .set .ensures (a .settings) bytes (a .tags .now))
+    λ bytes. rw (← form, taken bytes) (at-set-or-drop .set-or-drop .ensures (a .settings) bytes (a .tags .now))
 
 returns-2 : tie.Need-returns-2
 returns-2 c =
@@ -134,8 +124,7 @@ ldg-spec =
     load-requires
     x-or-zero-requires
     with-tag-requires
-    or-none-requires
-    set-requires
+    set-or-drop-requires
     enum-known-placed-2
     same-length
     returns

@@ -1,11 +1,10 @@
 -- `execution::register_words::gmi` meets its contract. Assumes nothing.
 use borrow.Author.Needs.{needs}
 use mathlib.Core.Path.{_≡_}
-use native.Mathlib.Omega.{arith}
 use Rattle.machine.specs.Codes.{lowest}
+use Rattle.machine.specs.Registers.{orNone}
 use Rattle.isa.specs.declared.Decoded.the-variants.{Is}
 use Rattle.isa.specs.Decoding.{twoSourceAt}
-use Rattle.instructions.proofs.Within.{or-none-le}
 use Rattle.execution.specs.Simulation.{Simulation}
 use Rattle.execution.specs.Inside.Taking.{formTaken, decodedTaken, gathered, registerTaken}
 use Rattle.isa.specs.declared.TwoSourceOp.the-variants.{Gmi}
@@ -30,15 +29,8 @@ x-or-sp-requires c κs = search needs
 insert-requires : tie.Need-insert-requires
 insert-requires c κs = search needs
 
-or-none-requires : tie.Need-or-none-requires
-or-none-requires c κs = search needs
-
-set-requires : tie.Need-set-requires
-set-requires c κs =
-    let valued = c .before .before .before in
-    let fields = valued .before .before .before .before .before in
-    let start = fields .before .before .before .before in
-    (rw (c .before .or-none .ensures) (or-none-le (fields .before .before .field .result) (omega arith)), (start .pre, start .pre .packed))
+set-or-drop-requires : tie.Need-set-or-drop-requires
+set-or-drop-requires c κs = search needs
 
 same-length : tie.Need-same-length
 same-length c = search needs
@@ -47,25 +39,23 @@ returns : tie.Need-returns
 unfolding decodedTaken formTaken lowest
 returns c =
     let told = c .before .before in
-    let target = told .before .before in
-    let valued = target .before .before in
+    let valued = told .before .before .before in
     let second = valued .before in
     let first = second .before .before in
     let fields = first .before .before in
     let a = fields .before .before .before .before .args in
     λ settings bytes tags.
     let s : Simulation = gathered settings (a .x .now) (a .status) bytes tags (a .history .now) (a .cursor) in
-    let p : decodedTaken (Is (twoSourceAt Gmi (a .w))) s ≡ registerTaken (target .or-none .result) (valued .insert .result) (a .status) s =
+    let p : decodedTaken (Is (twoSourceAt Gmi (a .w))) s ≡ registerTaken (orNone (fields .before .before .field .result)) (valued .insert .result) (a .status) s =
     rw (
       valued .insert .ensures,
       second .x-or-sp .ensures,
       first .x-or-zero .ensures,
-      target .or-none .ensures,
       fields .field3 .ensures,
       fields .before .field2 .ensures,
       fields .before .before .field .ensures,
     ) in
-    rw p (told .set .ensures settings bytes tags)
+    rw p (told .set-or-drop .ensures settings bytes tags)
 
 pub gmi-spec : {M : Type 1} → statement M
 gmi-spec =
@@ -77,7 +67,6 @@ gmi-spec =
     x-or-zero-requires
     x-or-sp-requires
     insert-requires
-    or-none-requires
-    set-requires
+    set-or-drop-requires
     same-length
     returns)

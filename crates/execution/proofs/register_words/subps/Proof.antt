@@ -8,13 +8,13 @@ use borrow.Author.Tests.{eq-eqb, eqb-true}
 use native.Mathlib.Omega.{arith}
 use Rattle.bits.specs.Fields.{bitsAt}
 use Rattle.machine.specs.Codes.{lowest}
+use Rattle.machine.specs.Registers.{orNone}
 use Rattle.execution.specs.Simulation.{Simulation}
 use Rattle.execution.specs.Inside.Taking.{formTaken, decodedTaken, gathered, registerTaken}
 use Rattle.isa.specs.declared.Decoded.the-variants.{Is, Undefined}
 use Rattle.isa.specs.declared.TwoSourceOp.the-variants.{Subps}
 use Rattle.isa.specs.Decoding.{twoSourceAt}
 use Rattle.isa.specs.Inside.DecodingBranches.{ifBit21, subpsBranch}
-use Rattle.instructions.proofs.Within.{or-none-le}
 use Rattle.execution.proofs.register_words.subps.Statement.{statement}
 use Rattle.execution.proofs.register_words.subps.Tie as tie
 
@@ -73,15 +73,8 @@ flags-requires c κs = search needs
 with-nzcv-requires : tie.Need-with-nzcv-requires
 with-nzcv-requires c κs = search needs
 
-or-none-requires : tie.Need-or-none-requires
-or-none-requires c κs = search needs
-
-set-requires : tie.Need-set-requires
-set-requires c κs =
-    let flagged = c .before .before .before in
-    let fields = flagged .before .before .before .before .before .before .before .before .before in
-    let start = fields .before .before .before .before .before in
-    (rw (c .before .or-none .ensures) (or-none-le (fields .field3 .result) (omega arith)), (start .pre, flagged .with-nzcv .ensures .1))
+set-or-drop-requires : tie.Need-set-or-drop-requires
+set-or-drop-requires c κs = search needs
 
 same-length : tie.Need-same-length
 same-length c = search needs
@@ -90,8 +83,7 @@ returns-2 : tie.Need-returns-2
 unfolding decodedTaken formTaken lowest
 returns-2 c =
     let told = c .before .before in
-    let target = told .before .before in
-    let flagged = target .before .before in
+    let flagged = told .before .before .before in
     let valued = flagged .before .before in
     let right = valued .before in
     let left = right .before .before .before in
@@ -102,7 +94,7 @@ returns-2 c =
     λ bytes tags.
     let s : Simulation = gathered (a .settings) (a .x .now) (a .status) bytes tags (a .history .now) (a .cursor) in
     let p : decodedTaken (ifBit21 (a .w) 0 (subpsBranch (bitsAt (a .w) 10 6) (a .w))) s
-    ≡ registerTaken (target .or-none .result) (valued .subtract .result) (flagged .with-nzcv .result) s =
+    ≡ registerTaken (orNone (fields .field3 .result)) (valued .subtract .result) (flagged .with-nzcv .result) s =
     rw (
       found,
       valued .subtract .ensures,
@@ -110,12 +102,11 @@ returns-2 c =
       flagged .before .flags .ensures .0,
       right .x-or-sp2 .ensures,
       left .x-or-sp .ensures,
-      target .or-none .ensures,
       right .before .field5 .ensures,
       left .before .field4 .ensures,
       fields .field3 .ensures,
     ) in
-    rw p (told .set .ensures (a .settings) bytes tags)
+    rw p (told .set-or-drop .ensures (a .settings) bytes tags)
 
 pub subps-spec : {M : Type 1} → statement M
 subps-spec =
@@ -133,7 +124,6 @@ subps-spec =
     subtract-requires
     flags-requires
     with-nzcv-requires
-    or-none-requires
-    set-requires
+    set-or-drop-requires
     same-length
     returns-2)
