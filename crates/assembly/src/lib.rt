@@ -1,4 +1,6 @@
 // A session as a .s file, which has its words as lines of A64 text, and back, on bytes.
+#![tactic(auto)]
+
 ghost use Rattle.std.specs.Prelude.{◌≡◌};
 ghost use Rattle.assembly.specs.Answers.{LendableText, answered, answer_for};
 ghost use Rattle.assembly.specs.Assembling.{assembled, session_of};

@@ -1,5 +1,7 @@
 // Runs a workload from standard input on the simulator, and writes how much was done and a checksum of the end
 // (docs/MANUAL.md, "The benchmark").
+#![tactic(auto)]
+
 ghost use Rattle.std.specs.Prelude.{◌≤◌, length};
 
 use machine::Machine;

@@ -1,5 +1,7 @@
 // Fields of a number by shifts and masks, and the bytes of a word.
 // Each function is public because the other crates call it with places that they know to be in range.
+#![tactic(auto)]
+
 ghost use Rattle.std.specs.Prelude.{◌≡◌, ◌+◌, ◌^◌, ◌<◌, ◌≤◌, length};
 ghost use Rattle.std.proofs.lemmas.List.Edits.{sets};
 ghost use Rattle.bits.specs.Fields.{bits_at, with_bits};

@@ -1,4 +1,6 @@
 // A checksum of numbers in order, for the programs that are compared with others.
+#![tactic(auto)]
+
 ghost use Rattle.std.specs.Prelude.{◌≡◌};
 ghost use Rattle.checksum.specs.Checksum.{with_number, with_numbers};
 

@@ -1,5 +1,7 @@
 // What is written of an answer: the text on standard output, or on standard error why there is none, which is the line and what was
 // expected there (docs/MANUAL.md).
+#![tactic(auto)]
+
 ghost use Rattle.std.specs.Prelude.{◌≡◌};
 ghost use Rattle.assembly.specs.Answers.{LendableText};
 

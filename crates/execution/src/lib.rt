@@ -1,5 +1,7 @@
 // One word carried out in place, on a machine in parts: the register file, the data bytes, the tag bytes and the history words are lent,
 // and the status goes as a number, as a record has it.
+#![tactic(auto)]
+
 ghost use Rattle.std.specs.Prelude.{◌≡◌, ◌/◌, ◌^◌, true, ◌⊎◌};
 ghost use Rattle.isa.specs.Words.{add_sub_bits};
 ghost use Rattle.history.specs.Inside.StatusWords.{IsStatus};

@@ -1,4 +1,6 @@
 // The two functions that a C front end calls (include/mte.h).
+#![tactic(auto)]
+
 ghost use Rattle.std.specs.Prelude.{◌≡◌};
 ghost use Rattle.frontend.specs.FrontEnd.{choice_answer, code_answer};
 

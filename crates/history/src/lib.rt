@@ -1,5 +1,7 @@
 // The history: records of eight words in a ring of slots. Each function is public because our own crates call it, with
 // slots and a cursor that they know to be in range.
+#![tactic(auto)]
+
 ghost use Rattle.std.specs.Prelude.{false, ◌≡◌, ◌+◌, ◌*◌, ◌%◌, ◌<◌, ◌≤◌, min, length};
 ghost use Rattle.std.proofs.lemmas.List.Edits.{sets};
 ghost use Rattle.machine.specs.declared.Settings.{Settings};

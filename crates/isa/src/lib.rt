@@ -1,4 +1,6 @@
 // The instruction words of the memory tagging extension: their forms, the decoder and the encoder.
+#![tactic(auto)]
+
 ghost use Rattle.std.specs.Prelude.{◌≡◌};
 ghost use Rattle.isa.specs.Decoding.{decoded_code, decode_of};
 ghost use Rattle.isa.specs.Encoding.{encoded_code, encoded_word, encode_of};

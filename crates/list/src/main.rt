@@ -1,5 +1,7 @@
 // Reads a session from standard input and writes its listing, or tells on standard error why there is none. A read or a write that fails
 // is told on standard error.
+#![tactic(auto)]
+
 use diagnostics::Source;
 
 // One byte more than the largest file has, so that a larger one is seen.

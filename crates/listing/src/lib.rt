@@ -1,4 +1,6 @@
 // Listings: the words of a program as lines of A64 text, written one after the other and read back.
+#![tactic(auto)]
+
 ghost use Rattle.std.specs.Prelude.{◌≡◌};
 ghost use Rattle.listing.specs.Codes.{read_code, read_word};
 ghost use Rattle.listing.specs.Inside.Method.{read_form};

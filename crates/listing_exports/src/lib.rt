@@ -1,4 +1,6 @@
 // The writer and the reader of a line as functions on plain numbers, for the comparison with the independent second program.
+#![tactic(auto)]
+
 ghost use Rattle.std.specs.Prelude.{◌≡◌};
 ghost use Rattle.listing.specs.Codes.{read_code, read_word};
 ghost use Rattle.listing.specs.Reading.{read_of};

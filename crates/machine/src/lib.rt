@@ -1,4 +1,6 @@
 // The machine: its parts, its codes and the rules of its setup.
+#![tactic(auto)]
+
 ghost use Rattle.std.specs.Prelude.{◌≡◌};
 ghost use Rattle.machine.specs.Codes.{code_number};
 ghost use Rattle.machine.specs.Setup.{cursor_ok, setup_ok, state_ok};

@@ -1,6 +1,8 @@
 // The modelled memory: the rule on its sizes and base, the granules that an address names, and the stores.
 // A store is lent the part of the data that begins at the granule. Each function with a `requires` is public because our
 // own crates call it, with granules that they know to be inside.
+#![tactic(auto)]
+
 ghost use Rattle.std.specs.Prelude.{◌≡◌, ◌+◌, ◌*◌, ◌%◌, ◌≤◌, true, length, replicate};
 ghost use Rattle.std.proofs.lemmas.List.Edits.{sets};
 ghost use Rattle.memory.specs.Locations.{granule_code, granule_of};

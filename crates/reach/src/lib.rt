@@ -1,4 +1,6 @@
 // The part of lent data that a pointer reaches. It is tied to the data alone: the tags may be written while it is held.
+#![tactic(auto)]
+
 ghost use Rattle.std.specs.Prelude.{[], ◌≡◌, ◌+◌, ◌≤◌, length, drop};
 ghost use Rattle.reach.specs.ReachablePart.{in_row, reachable_of};
 

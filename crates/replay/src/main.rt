@@ -1,5 +1,7 @@
 // Plays a script from standard input on the machine and writes what each call answers and the state (docs/MANUAL.md,
 // "Replaying a script").
+#![tactic(auto)]
+
 ghost use Rattle.std.specs.Prelude.{◌≤◌, length};
 
 use lines::Line;

@@ -1,5 +1,7 @@
 // A block is freed: its granules get a new tag, so that a stale pointer reaches nothing. The block's part of the data is held all
 // the while: it is tied to the data alone, so the tags may be written.
+#![tactic(auto)]
+
 mod lines;
 
 const BASE: u64 = 0x1000;

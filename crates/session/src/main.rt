@@ -1,4 +1,6 @@
 // Reads a session from standard input and writes what it comes to. A read or a write that fails is told on standard error.
+#![tactic(auto)]
+
 fn main() {
     let mut room = [0u8; 3733];
     let n = stdio::read(&mut room, b"session: cannot read standard input");

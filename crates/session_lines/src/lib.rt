@@ -1,5 +1,7 @@
 // The lines of a session, read and put. What has a `requires` is public because the other crates call it with buffers that have a
 // place for each number, or room for all lines.
+#![tactic(auto)]
+
 ghost use Rattle.std.specs.Prelude.{◌&&◌, ◌++◌, ◌≡◌, ◌+◌, ◌≤◌, ◌<◌, leb, length, set};
 ghost use Rattle.std.proofs.lemmas.List.Edits.{sets};
 ghost use Rattle.session_lines.specs.Inside.Buffers.{Counted, Roomy, parsed_by};

@@ -1,4 +1,6 @@
 // The session program's work on bytes: what it prints for what it reads.
+#![tactic(auto)]
+
 ghost use Rattle.std.specs.Prelude.{List, ◌≡◌, ℕ, ◌≤◌, length};
 ghost use Rattle.std.proofs.lemmas.List.Edits.{sets};
 ghost use Rattle.session_text.specs.Inside.Buffers.{Printed};

@@ -1,6 +1,8 @@
 // The simulator: steps, runs, steps back, and lists of them, on a machine with history.
 // The machine goes in and out by value; its data bytes, tag bytes and history words are lent. Inside, the register file is lent too, and
 // the status goes as a number, as a record has it.
+#![tactic(auto)]
+
 ghost use Rattle.std.specs.Prelude.{◌≡◌};
 ghost use Rattle.execution.specs.Calls.{answered, returned};
 ghost use Rattle.execution.specs.Inside.Taking.{machine_with};

@@ -1,5 +1,7 @@
 // Runs and steps back made in place, on a machine in parts, as `execution` has it. The functions are public because `simulator` calls
 // them, with a setup that it has checked.
+#![tactic(auto)]
+
 ghost use Rattle.std.specs.Prelude.{true, ◌≡◌};
 ghost use Rattle.history.specs.Inside.StatusWords.{IsStatus};
 ghost use Rattle.execution.specs.Calls.{in_order};

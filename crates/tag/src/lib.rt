@@ -1,4 +1,6 @@
 // A pointer's tag, tag choice, and the random bits of IRG.
+#![tactic(auto)]
+
 ghost use Rattle.std.specs.Prelude.{◌≡◌, ◌<◌};
 ghost use Rattle.tag.specs.PointerTags.{tag_of, with_tag};
 ghost use Rattle.tag.specs.RandomBits.{drawn};

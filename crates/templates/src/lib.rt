@@ -1,5 +1,7 @@
 // Lines of text made from templates, in which a capital letter stands for a field. What is public has a `requires` where another
 // crate of ours calls it with a row or a buffer that it knows to be in range.
+#![tactic(auto)]
+
 ghost use Rattle.std.specs.Prelude.{◌≡◌, ◌+◌, ◌≤◌, ◌<◌, length, get_or};
 ghost use Rattle.std.proofs.lemmas.List.Edits.{sets};
 ghost use Rattle.templates.specs.FieldText.{decimal, amount_text, register_text};

@@ -1,6 +1,8 @@
 // Texts of keys and hex numbers: a key, a number of a fixed count of lower-case digits, and a line of both, each read at a place
 // of a text and put at one. What has a `requires` is public because the other crates call it with places that they know to be
 // in range and with counts of digits that they fix.
+#![tactic(auto)]
+
 ghost use Rattle.std.specs.Prelude.{cond, ◌≡◌, ◌+◌, ◌≤◌, ◌<◌, length, drop};
 ghost use Rattle.std.proofs.lemmas.List.Edits.{sets};
 ghost use Rattle.text.specs.Hex.{digit_value, digit_of, read_hex, hex_digits, digits_text};

@@ -1,5 +1,7 @@
 // A pointer walks over its block and goes too far; steps back show where it left the block
 // (docs/MANUAL.md, "Using the library").
+#![tactic(auto)]
+
 use isa::{Form, Mode, TagStoreOp};
 use machine::Machine;
 use simulator::{BACK, RUN, STEP};

@@ -1,0 +1,32 @@
+-- `bits::store_word` meets its contract: its stores are those of the bytes, one after the other. Assumes nothing.
+use borrow.Author.Rules.{rules}
+use mathlib.Core.Path.{ap}
+use native.Mathlib.Omega.{arith}
+use lib.ListN.{length-set}
+use lib.Seq.{sets}
+use Rattle.bits.proofs.LittleEndian.{bytes_apart}
+use Rattle.bits.proofs.store_word.Goals as goal
+
+pub bounds-part-1 : goal.bounds-part-1
+bounds-part-1 c = simp length-set (omega arith)
+
+pub bounds-part-2 : goal.bounds-part-2
+bounds-part-2 c = simp length-set (omega arith)
+
+pub bounds-part-3 : goal.bounds-part-3
+bounds-part-3 c = simp length-set (omega arith)
+
+pub bounds-part-4 : goal.bounds-part-4
+bounds-part-4 c = simp length-set (omega arith)
+
+pub bounds-part-5 : goal.bounds-part-5
+bounds-part-5 c = simp length-set (omega arith)
+
+pub bounds-part-6 : goal.bounds-part-6
+bounds-part-6 c = simp length-set (omega arith)
+
+pub bounds-part-7 : goal.bounds-part-7
+bounds-part-7 c = simp length-set (omega arith)
+
+pub returns : goal.returns
+returns c = ap (sets c.args.part.now 0) (bytes_apart c.args.v)
