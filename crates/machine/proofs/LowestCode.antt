@@ -9,6 +9,7 @@ use Rattle.machine.specs.Codes.{code_number, Check, lowest, Rising, Among, Lowes
 
 -- what stands behind the first is above it
 above : (n : ℕ) (cs : List Check) → Rising n cs → (c : Check) → Among c cs → n < code_number c.code
+above n [] r c m = elim m [ ]
 above n (d ∷ cs) r c (inl e) = rw e r.0
 above n (d ∷ cs) r c (inr m) = omega (arith, r.0, above (code_number d.code) cs r.1 c m)
 
@@ -17,6 +18,7 @@ Least n number c = (n < number) × (number ≤ code_number c.code)
 
 least : (n : ℕ) (cs : List Check) → Rising n cs → (c : Check) → Among c cs → c.applies ≡ true → Least n (code_number (lowest cs)) c
 unfolding lowest
+least n [] r c m p = elim m [ ]
 least n (d ∷ cs) r c (inl e) p =
     let q : d.applies ≡ true = sym (ap (λ (k : Check). k.applies) e) ∙ p in
     rw (q, e) (r.0, omega arith)
