@@ -1,28 +1,39 @@
 // Standard input and output for a program. A read or a write that fails is told on standard error.
 #![tactic(auto)]
 
-ghost use Rattle.std.specs.Prelude.{◌≡◌, ◌≤◌, length};
-ghost use Rattle.io.specs.Counts.{IsPrefixLen};
+ghost use Rattle.std.specs.Prelude.{◌≡◌, ◌≤◌, length, take};
 
-// One read. If it fails, a line on standard error says so: failed, and the system's reason.
-fn read_some(room: &mut [u8], failed: &[u8]) -> usize
+use std::io;
+use std::io::{Print, Read};
+
+// Tells a failure on standard error, in a line: failed, and the system's reason. If that fails too, there is no place left to tell it.
+fn fail(rt: &HostRuntime, failed: &[u8], reason: io::Error) {
+    tell(rt, failed);
+    let _ = eprintln!(rt; ": {reason}");
+}
+
+// One read. If it fails, a line on standard error says so.
+fn read_some(rt: &HostRuntime, room: &mut [u8], failed: &[u8]) -> usize
     ensures { result ≤ length room.old }
 {
-    let got = libc::read(libc::STDIN_FILENO, room);
-    if got < 0 {
-        os::fail(failed);
+    match rt.stdin().read(room) {
+        Ok(n) => n,
+        Err(reason) => {
+            fail(rt, failed, reason);
+            0
+        },
     }
-    io::count(got, room)
 }
 
 // Reads until room is full or the input ends, and answers how many bytes it put at the start of room. A read that fails counts as
 // the end, and is told.
-pub fn read(room: &mut [u8], failed: &[u8]) -> usize
-    ensures { IsPrefixLen result room.new }
+pub fn read(rt: &HostRuntime, room: &mut [u8], failed: &[u8]) -> usize
+    ensures in_bounds { result ≤ length room.new }
+    ensures part { result ≡ length (take result room.new) }
 {
     let mut done = 0;
     while done < room.len() {
-        let more = read_some(&mut room[done..], failed);
+        let more = read_some(rt, &mut room[done..], failed);
         if more == 0 {
             break;
         }
@@ -31,22 +42,19 @@ pub fn read(room: &mut [u8], failed: &[u8]) -> usize
     done
 }
 
-// Writes bytes to standard output. A write that fails is told on standard error, by failed and the system's reason, and is the last: what
-// is written stays the beginning of the answer, without a gap, and the failure is told once. That bytes are written no contract can say.
-pub fn write(bytes: &[u8], failed: &[u8])
-    ensures { bytes.now ≡ bytes.now }
-{
-    if !io::write_all(libc::STDOUT_FILENO, bytes) {
-        os::fail(failed);
-        libc::close(libc::STDOUT_FILENO);
-        libc::close(libc::STDERR_FILENO);
+// Writes bytes to standard output. A write that fails is told on standard error, by failed and the system's reason, and the caller, who
+// gets its error, writes no more: what is written stays the beginning of the answer, without a gap, and the failure is told once. That
+// bytes are written no contract can say.
+pub fn write(rt: &HostRuntime, bytes: &[u8], failed: &[u8]) -> io::Result<()> {
+    let written = rt.write_all(bytes);
+    if let Err(reason) = written {
+        fail(rt, failed, reason);
     }
+    written
 }
 
 // Writes bytes to standard error, for a program that tells there why it refuses its input. A failure is passed over: there is no
 // place left to tell it, and nothing more to do.
-pub fn tell(bytes: &[u8])
-    ensures { bytes.now ≡ bytes.now }
-{
-    io::write_all(libc::STDERR_FILENO, bytes);
+pub fn tell(rt: &HostRuntime, bytes: &[u8]) {
+    let _ = rt.stderr().write_all(bytes);
 }
