@@ -3,6 +3,7 @@
 
 ghost use Rattle.std.specs.Prelude.{◌≡◌, ◌≤◌, length, take};
 
+use std::cell::Cell;
 use std::io;
 use std::io::{Print, Read};
 
@@ -42,15 +43,29 @@ pub fn read(rt: &HostRuntime, room: &mut [u8], failed: &[u8]) -> usize
     done
 }
 
-// Writes bytes to standard output. A write that fails is told on standard error, by failed and the system's reason, and the caller, who
-// gets its error, writes no more: what is written stays the beginning of the answer, without a gap, and the failure is told once. That
-// bytes are written no contract can say.
-pub fn write(rt: &HostRuntime, bytes: &[u8], failed: &[u8]) -> io::Result<()> {
-    let written = rt.write_all(bytes);
-    if let Err(reason) = written {
-        fail(rt, failed, reason);
+// Standard output, until a write fails.
+pub struct Output<'a> {
+    rt: &'a HostRuntime,
+    has_failed: Cell<bool>,
+}
+
+pub fn open(rt: &HostRuntime) -> Output<'_> {
+    Output {
+        rt,
+        has_failed: Cell::new(false),
     }
-    written
+}
+
+// Writes bytes to standard output. A write that fails is told on standard error, by failed and the system's reason, and is the last: what
+// is written stays the beginning of the answer, without a gap, and the failure is told once. That bytes are written no contract can say.
+pub fn write(to: &Output<'_>, bytes: &[u8], failed: &[u8]) {
+    if to.has_failed.get() {
+        return;
+    }
+    if let Err(reason) = to.rt.write_all(bytes) {
+        fail(to.rt, failed, reason);
+        to.has_failed.set(true);
+    }
 }
 
 // Writes bytes to standard error, for a program that tells there why it refuses its input. A failure is passed over: there is no
