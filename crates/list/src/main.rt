@@ -7,10 +7,11 @@ use diagnostics::Source;
 // One byte more than the largest file has, so that a larger one is seen.
 const ROOM: usize = 0x10_0001;
 
-fn run(room: &mut [u8], out: &mut [u8; 25748]) {
-    let n = stdio::read(room, b"list: cannot read standard input");
+fn run(rt: &HostRuntime, room: &mut [u8], out: &mut [u8; 25748]) {
+    let n = stdio::read(rt, room, b"list: cannot read standard input");
     let answer = assembly::list(&room[..n], out);
     diagnostics::report(
+        rt,
         Source::Session,
         answer,
         &room[..n],
@@ -20,12 +21,12 @@ fn run(room: &mut [u8], out: &mut [u8; 25748]) {
 }
 
 // Lends the array as a slice, here where its type says how long it is.
-fn lend(room: &mut [u8; ROOM], out: &mut [u8; 25748]) {
-    run(room, out);
+fn lend(rt: &HostRuntime, room: &mut [u8; ROOM], out: &mut [u8; 25748]) {
+    run(rt, room, out);
 }
 
-fn main() {
+fn main(rt: HostRuntime) {
     let mut room = [0u8; ROOM];
     let mut out = [0u8; 25748];
-    lend(&mut room, &mut out);
+    lend(&rt, &mut room, &mut out);
 }

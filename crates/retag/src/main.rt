@@ -12,14 +12,15 @@ const STALE: u64 = 0x0500_0000_0000_1010;
 const RENEWED: u64 = 0x0600_0000_0000_1010;
 
 // Four granules. The block is the second and the third.
-fn main() {
+fn main(rt: HostRuntime) {
+    let to = stdio::open(&rt);
     let data = *b"the first block;a block of two granules to free;the other block.";
     let mut tags = [3u8, 5, 5, 9];
     let block = reach::reachable(STALE, BASE, &data, &tags);
-    lines::write_reached(STALE, block);
+    lines::write_reached(&to, STALE, block);
     tags[1] = 6;
     tags[2] = 6;
-    lines::write_held(block);
-    lines::write_reached(STALE, reach::reachable(STALE, BASE, &data, &tags));
-    lines::write_reached(RENEWED, reach::reachable(RENEWED, BASE, &data, &tags));
+    lines::write_held(&to, block);
+    lines::write_reached(&to, STALE, reach::reachable(STALE, BASE, &data, &tags));
+    lines::write_reached(&to, RENEWED, reach::reachable(RENEWED, BASE, &data, &tags));
 }
