@@ -9,7 +9,7 @@ ghost use Rattle.machine.specs.State.{fresh_on};
 pub mod register_file;
 
 // What no word changes.
-#[derive(Drop)]
+#[derive(Clone, Copy)]
 pub struct Settings {
     pub base: u64,
     pub exclude: u16,
@@ -17,7 +17,7 @@ pub struct Settings {
 }
 
 // The flags NZCV, and RGSR_EL1: its tag (rgsr) and its seed.
-#[derive(Drop)]
+#[derive(Clone, Copy)]
 pub struct Status {
     pub nzcv: u8,
     pub rgsr: u8,
@@ -25,27 +25,27 @@ pub struct Status {
 }
 
 // X0 to X30 with SP at 31, and the status.
-#[derive(Drop)]
+#[derive(Clone, Copy)]
 pub struct Registers {
     pub x: [u64; 32],
     pub status: Status,
 }
 
 // The place in the history: the slot that is written next, and how many are held.
-#[derive(Drop)]
+#[derive(Clone, Copy)]
 pub struct Cursor {
     pub next: usize,
     pub held: usize,
 }
 
-#[derive(Drop)]
+#[derive(Clone, Copy)]
 pub struct Machine {
     pub settings: Settings,
     pub registers: Registers,
     pub cursor: Cursor,
 }
 
-#[derive(Drop)]
+#[derive(Clone, Copy)]
 pub enum Code {
     Done,
     Setup,

@@ -10,7 +10,7 @@ ghost use Rattle.memory.specs.Sizes.{sizes_ok};
 ghost use Rattle.memory.specs.Stores.{pair_bytes, saved_bytes, saved_tags, zero_bytes};
 
 // The first of the granules that an address names, or none where one of them is outside.
-#[derive(Drop)]
+#[derive(Clone, Copy)]
 pub enum Granule {
     At(usize),
     Outside,
