@@ -46,13 +46,14 @@ pub fn choose(start: u8, offset: u8, mask: u16) -> u8
 {
     let mut tag = start as u64;
     let mut left = offset as u64;
+    let all_masked = mask == 0xffff;
     'walk: loop {
         if 0 < left {
             tag = (tag + 1) % 16;
             left -= 1;
         }
         while is_masked(mask, tag) {
-            if mask == 0xffff {
+            if all_masked {
                 tag = 0;
                 break 'walk;
             }

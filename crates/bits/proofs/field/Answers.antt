@@ -1,6 +1,5 @@
 -- `bits::field` meets its contract: the shift divides, the mask is 2 ^ width - 1. Assumes nothing.
 use native.Mathlib.Omega.{arith}
-use borrow.Author.Rules.{rules}
 use lib.Pow.{pow_pos}
 use Rattle.bits.proofs.Fields.{one_shifted, shift_mask}
 use Rattle.bits.proofs.field.Goals as goal

@@ -1,5 +1,4 @@
 -- `bits::load_word` meets its contract. Assumes nothing.
-use borrow.Author.Rules.{rules}
 use native.Mathlib.Omega.{arith}
 use Rattle.bits.proofs.LittleEndian.{word_apart}
 use Rattle.bits.proofs.load_word.Goals as goal

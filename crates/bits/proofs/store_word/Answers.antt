@@ -1,5 +1,4 @@
 -- `bits::store_word` meets its contract: its stores are those of the bytes, one after the other. Assumes nothing.
-use borrow.Author.Rules.{rules}
 use mathlib.Core.Path.{ap}
 use native.Mathlib.Omega.{arith}
 use lib.ListN.{length-set}

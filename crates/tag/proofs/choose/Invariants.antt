@@ -1,13 +1,10 @@
 -- `tag::choose` meets its contract. The outer invariant: from the tag reached, with what is left, the same tag is chosen. The inner: unless all
 -- tags are masked, the walk that is left from the next admitted tag gives it. The measures: what is left, and how far that tag is.
 -- Assumes nothing.
-use mathlib.Core.Path.{◌≡◌, refl, sym, ap, ◌∙◌}
-use mathlib.Core.Logic.{⊎_elim}
+use mathlib.Core.Path.{◌≡◌}
 use Prim.Native.Nat.{◌<◌}
-use native.Mathlib.Omega.{arith}
-use borrow.Author.Rules.{rules}
-use Rattle.tag.specs.TagChoice.{next, past, walk, chosen}
-use Rattle.tag.proofs.TagChoice.{to_go, past_on, chosen_lt, chosen_none, chosen_walk, walk_zero, turn_moves, turn_stays, turn_ends}
+use Rattle.tag.specs.TagChoice.{past, walk, chosen}
+use Rattle.tag.proofs.TagChoice.{to_go}
 use Rattle.tag.proofs.choose.Given as goal
 
 abbrev pub invariant-loop-tag : goal.invariant-loop-tag

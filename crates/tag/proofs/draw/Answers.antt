@@ -2,7 +2,6 @@
 use mathlib.Core.Path.{ap, ◌∙◌}
 use Prim.Native.Nat.{◌/◌}
 use native.Mathlib.Omega.{arith}
-use borrow.Author.Rules.{rules}
 use Rattle.bits.specs.Fields.{with_bits}
 use Rattle.tag.proofs.RandomBits.{at_once}
 use Rattle.tag.proofs.draw.Goals as goal
