@@ -16,7 +16,7 @@ loop-i-init c = (omega arith, rw add-zero)
 pub returns-then-key-i : goal.returns-then-key-i
 returns-then-key-i c = let l = c in
     let a = l.args in
-    sym (l.loop-i.invariant.1 ∙ starts_wrong a.key.now a.s.now a.at l.loop-i.i (omega arith) (omega arith) c.if-key-i.true)
+    sym (l.loop-i.invariant.1 ∙ starts_wrong a.key.now a.s.now a.at l.loop-i.i (omega arith) (omega arith) (λ e. omega arith))
 
 pub loop-i-preserved : goal.loop-i-preserved
 loop-i-preserved c = let l = c in

@@ -1,42 +1,20 @@
 -- `text::line_at` meets its contract: once the frame stands, the line is what `capped` makes of the digits. Assumes nothing.
 use mathlib.Core.Path.{◌≡◌, ap, sym, ◌∙◌}
 use mathlib.Core.Bool.{true}
-use Prim.Native.Nat.{ℕ, ◌+◌, ◌≤◌}
+use Prim.Native.Nat.{ℕ, ◌+◌}
 use native.Mathlib.Omega.{arith}
 use mathlib.Core.List.{List}
 use lib.ListN.{length, drop}
 use Rattle.text.specs.Hex.{read_hex}
 use Rattle.text.specs.Lines.{framed, capped, line_at}
 use Rattle.text.specs.declared.Hex.{Hex}
-use Rattle.text.proofs.Framing.{frame_fits, line_unframed, line_framed, capped_is, capped_over, capped_not}
+use Rattle.text.proofs.Framing.{line_unframed, line_framed, capped_is, capped_over, capped_not}
 use Rattle.text.proofs.line_at.Goals as goal
 
 pub returns-then-not-frame : goal.returns-then-not-frame
 returns-then-not-frame c =
     let a = c.args in
     sym (line_unframed a.key.now a.n a.most a.s.now a.at (sym c.frame.ensures ∙ c.if-not-frame.true))
-
-pub overflow_add-digits : goal.overflow_add-digits
-overflow_add-digits c =
-    let a = c.args in
-    omega (arith, frame_fits a.key.now a.n a.s.now a.at (sym c.frame.ensures ∙ c.if-not-frame.false))
-
-pub hex_at-requires : goal.hex_at-requires
-hex_at-requires c =
-    let a = c.args in
-    let room : a.at + (length a.key.now + a.n + 1) ≤ length a.s.now =
-    frame_fits a.key.now a.n a.s.now a.at (sym c.frame.ensures ∙ c.if-not-frame.false) in
-    record { n_in_bounds = omega arith; n_bound = omega arith }
-
-pub overflow_add-result : goal.overflow_add-result
-overflow_add-result c =
-    let a = c.args in
-    omega (arith, frame_fits a.key.now a.n a.s.now a.at (sym c.frame.ensures ∙ c.if-not-frame.false))
-
-pub overflow_add-result-then-v-most : goal.overflow_add-result-then-v-most
-overflow_add-result-then-v-most c =
-    let a = c.args in
-    omega (arith, frame_fits a.key.now a.n a.s.now a.at (sym c.frame.ensures ∙ c.if-not-frame.false))
 
 whole :
     (key : List ℕ) (n most : ℕ) (s : List ℕ) (at : ℕ) (x : Hex)
