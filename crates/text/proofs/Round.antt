@@ -14,7 +14,6 @@ use Rattle.text.specs.Hex.{digit_value, digit_of, read_hex, hex_digits, digits_t
 use Rattle.text.specs.Lines.{starts, framed, capped, line_text, digits_line, digits_line_at}
 use Rattle.text.specs.RoundTrip.{LineBack, DigitsLineBack}
 use Rattle.text.specs.declared.Hex.TheVariants.{Value}
-use Rattle.text.specs.declared.Line.TheVariants.{Is}
 use Rattle.text.proofs.Framing.{frame_end, line_framed, capped_is}
 use Rattle.text.proofs.Writing.{length_digits, length_digits_text}
 

@@ -101,6 +101,7 @@ fn frame(s: &[u8], at: usize, key: &[u8], n: usize) -> bool
 
 // The line at at: the key, n digits of a number of at most most, a line feed. The place may be any; the count of digits is the
 // caller's and fits a number.
+#[tactic(auto, using(crate::proofs::Framing::frame_fits))]
 pub fn line_at(s: &[u8], at: usize, key: &[u8], n: usize, most: u64) -> Line
     requires { n ≤ 16 }
     ensures { result ≡ line_at key.now n most s.now at }
