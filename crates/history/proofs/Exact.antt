@@ -1,4 +1,4 @@
--- BADRECORD exactly, as specs/WellFormedRecords states it: the words accepted are those of well_formed_lem records. Assumes nothing.
+-- BADRECORD exactly, as specs/WellFormedRecords states it: the words accepted are those of well-formed records. Assumes nothing.
 use Prim.Native.Nat.{ℕ, zero, suc, ◌+◌, ◌*◌, ◌^◌, ◌≤◌, ◌<◌}
 use mathlib.Core.Path.{◌≡◌, refl, sym, ap, ◌∙◌}
 use mathlib.Core.Bool.{Bool, true, false, ◌&&◌, ◌||◌}
@@ -16,7 +16,7 @@ use Rattle.history.specs.WellFormedRecords.{OldRegister, register, noRegister, O
 use Rattle.history.proofs.Packing.{Fits, entry_back, gaps_zero}
 use Rattle.history.proofs.Rules.{Rules, rules, gaps}
 
--- a well_formed_lem record is accepted
+-- a well-formed record is accepted
 
 register_passes : (r : OldRegister) → RegisterFits r → (register_number r ≤ 32) × ((eqb (register_number r) 32 && not_zero (register_value r)) ≡ false)
 register_passes (register n value) f = (omega arith, rw (ne_eqb n 32 (omega arith)))

@@ -95,7 +95,7 @@ pub record EightWords (r : List ℕ) : Type 0 where
   pub small : (i : ℕ) → get_or r i 0 < 2 ^ 64
 
 pub record ExactRecords : Type 0 where
-  -- the words of a well_formed_lem record are accepted
+  -- the words of a well-formed record are accepted
   pub accepts : (g : ℕ) (h : Held) → WellFormed g h → malformed g (record_words h) ≡ false
   -- and no other eight words are
   pub only : (g : ℕ) (r : List ℕ) → EightWords r → malformed g r ≡ false → (h : Held) × WellFormed g h × (r ≡ record_words h)

@@ -3,6 +3,7 @@ ghost use Rattle.std.specs.Prelude.{◌≡◌, ◌≤◌, length};
 ghost use Rattle.history.specs.BadRecords.{beyond, data_not_zero, data_of_none, gap_not_zero, malformed, out_of_range, tags_not_zero, value_not_zero};
 ghost use Rattle.history.specs.Records.{entry_in};
 
+#[tactic(auto, unfolding(crate::specs::Records::entry_in))]
 fn is_out_of_range(part: &[u64]) -> bool
     requires { 8 ≤ length part.now }
     ensures { result ≡ out_of_range (entry_in part.now) }
@@ -20,6 +21,7 @@ fn is_gap_used(part: &[u64]) -> bool
         | ((bits::field(w, 11, 5) != 0) | ((bits::field(w, 56, 8) != 0) | (part[7] != 0)))
 }
 
+#[tactic(auto, unfolding(crate::specs::Records::entry_in))]
 fn is_stray_value(part: &[u64]) -> bool
     requires { 8 ≤ length part.now }
     ensures { result ≡ value_not_zero (entry_in part.now) }
@@ -27,6 +29,7 @@ fn is_stray_value(part: &[u64]) -> bool
     (bits::field(part[0], 0, 6) == 32) & (part[1] != 0)
 }
 
+#[tactic(auto, unfolding(crate::specs::Records::entry_in))]
 fn is_stray_tag(part: &[u64]) -> bool
     requires { 8 ≤ length part.now }
     ensures { result ≡ tags_not_zero (entry_in part.now) }
@@ -39,6 +42,7 @@ fn is_stray_tag(part: &[u64]) -> bool
         | ((granules == 1) & (second != 0))
 }
 
+#[tactic(auto, unfolding(crate::specs::Records::entry_in))]
 fn is_stray_data(part: &[u64]) -> bool
     requires { 8 ≤ length part.now }
     ensures { result ≡ data_not_zero (entry_in part.now) }
@@ -50,6 +54,7 @@ fn is_stray_data(part: &[u64]) -> bool
         | ((granules == 1) & ((part[5] != 0) | (part[6] != 0)))
 }
 
+#[tactic(auto, unfolding(crate::specs::Records::entry_in))]
 fn is_data_of_none(part: &[u64]) -> bool
     requires { 8 ≤ length part.now }
     ensures { result ≡ data_of_none (entry_in part.now) }
@@ -58,6 +63,7 @@ fn is_data_of_none(part: &[u64]) -> bool
     (bits::field(w, 10, 1) == 1) & (bits::field(w, 8, 2) == 0)
 }
 
+#[tactic(auto, using(crate::proofs::Room::test_moved), unfolding(crate::specs::Records::entry_in))]
 fn is_beyond(part: &[u64], granules: usize) -> bool
     requires { 8 ≤ length part.now }
     ensures { result ≡ beyond granules (entry_in part.now) }
@@ -71,6 +77,7 @@ fn is_beyond(part: &[u64], granules: usize) -> bool
 }
 
 // Whether the record breaks a rule, where there are so many granules.
+#[tactic(auto, unfolding(crate::specs::BadRecords::malformed))]
 pub fn is_malformed(part: &[u64], granules: usize) -> bool
     requires { 8 ≤ length part.now }
     ensures { result ≡ malformed granules part.now }

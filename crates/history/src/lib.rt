@@ -28,6 +28,7 @@ fn slot_after(next: usize, slots: usize) -> usize
     if next + 1 == slots { 0 } else { next + 1 }
 }
 
+#[tactic(auto, unfolding(crate::specs::Ring::previous))]
 fn slot_before(next: usize, slots: usize) -> usize
     requires { next < slots }
     ensures { result ≡ previous slots next }
@@ -43,6 +44,7 @@ fn one_more(held: usize, slots: usize) -> usize
 }
 
 // The cursor after a record is written.
+#[tactic(auto, unfolding(crate::specs::Ring::advanced))]
 pub fn advance(cursor: Cursor, slots: usize) -> Cursor
     requires next_lt_slots { cursor.next < slots }
     requires held_le_slots { cursor.held ≤ slots }
@@ -55,6 +57,7 @@ pub fn advance(cursor: Cursor, slots: usize) -> Cursor
 }
 
 // The cursor after a step back.
+#[tactic(auto, unfolding(crate::specs::Ring::retreated))]
 pub fn retreat(cursor: Cursor, slots: usize) -> Cursor
     requires next_lt_slots { cursor.next < slots }
     requires le_held { 1 ≤ cursor.held }
@@ -106,6 +109,7 @@ pub fn push(
 }
 
 // Restores the data that a record holds, if it holds any.
+#[tactic(auto, using(crate::proofs::Restored::saved_data_back), unfolding(crate::specs::Records::entry_in))]
 fn restore_data(bytes: &mut [u8], first: usize, granules: usize, part: &[u64])
     requires in_bounds { 8 ≤ length part.now }
     requires granules_bound { granules ≤ 2 }
