@@ -1,0 +1,6 @@
+-- `instructions::pointers::insert` meets its contract. Assumes nothing.
+use Rattle.std.proofs.Common.{rules}
+use Rattle.instructions.proofs.pointers.insert.Goals as goal
+
+pub returns : goal.returns
+returns c = cc
