@@ -9,7 +9,7 @@ pub mod decoder;
 mod encoder;
 
 // Where a store takes its address from the base register, and when the register moves.
-#[derive(Drop)]
+#[derive(Clone, Copy)]
 pub enum Mode {
     Post,
     Pre,
@@ -17,14 +17,14 @@ pub enum Mode {
 }
 
 // A sum or difference of a pointer and an amount, with a tag offset.
-#[derive(Drop)]
+#[derive(Clone, Copy)]
 pub enum AddSubOp {
     Addg,
     Subg,
 }
 
 // An operation on two source registers.
-#[derive(Drop)]
+#[derive(Clone, Copy)]
 pub enum TwoSourceOp {
     Subp,
     Subps,
@@ -33,7 +33,7 @@ pub enum TwoSourceOp {
 }
 
 // A tag store of one or two granules, zeroing the data or not.
-#[derive(Drop)]
+#[derive(Clone, Copy)]
 pub enum TagStoreOp {
     Stg,
     Stzg,
@@ -42,7 +42,7 @@ pub enum TagStoreOp {
 }
 
 // An instruction with its fields. d, n, m, t and t2 are register numbers; amounts are bytes, modulo 2^64.
-#[derive(Drop)]
+#[derive(Clone, Copy)]
 pub enum Form {
     AddSub {
         op: AddSubOp,
@@ -78,13 +78,13 @@ pub enum Form {
     },
 }
 
-#[derive(Drop)]
+#[derive(Clone, Copy)]
 pub enum Decoded {
     Is(Form),
     Undefined,
 }
 
-#[derive(Drop)]
+#[derive(Clone, Copy)]
 pub enum Encoded {
     Word(u32),
     Field,
