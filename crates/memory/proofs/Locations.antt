@@ -1,6 +1,6 @@
 -- Laws of the granules that an address names. Assumes nothing.
-use Rattle.std.proofs.Common.{◌≡◌, ℕ, zero, suc, ◌+◌, ◌-◌, ◌*◌, ◌/◌, ◌%◌, ◌^◌, ◌<◌, ◌≤◌, Bool, true, false, cond, ◌&&◌, ltb, leb, sym, refl, ◌∙◌, arith, ltb-true, lt-ltb, le-leb, leb-true}
-use mathlib.Core.Bool.{and-eq-true_iff, false≢true}
+use Rattle.std.proofs.Common.{◌≡◌, ℕ, zero, suc, ◌+◌, ◌-◌, ◌*◌, ◌/◌, ◌%◌, ◌^◌, ◌<◌, ◌≤◌, Bool, true, false, cond, ltb, leb, refl, arith, ltb-true, lt-ltb, le-leb, leb-true}
+use mathlib.Core.Bool.{and-eq-true_iff}
 use Rattle.memory.specs.Locations.{location, inside, all_inside, granule_of, onward, index_of}
 use Rattle.memory.specs.declared.Granule.TheVariants.{At, Outside}
 use Rattle.memory.proofs.Sizes.{Sized}
