@@ -1,9 +1,9 @@
 -- The record of an accepted word is that of its effect, it is well formed, and what it holds put back gives the old state. Assumes
 -- nothing.
-use Prim.Native.Nat.{ℕ, zero, suc, ◌+◌, ◌*◌, ◌≤◌, ◌<◌}
+use Prim.Native.Nat.{ℕ, zero, suc, ◌+◌, ◌*◌, ◌≤◌}
 use mathlib.Core.Bool.{Bool, true, false, cond, ◌&&◌, ◌||◌, false≢true}
-use mathlib.Core.List.{List, [], ◌∷◌}
-use mathlib.Core.Path.{◌≡◌, refl, ap, sym, subst, ◌∙◌}
+use mathlib.Core.List.{List, []}
+use mathlib.Core.Path.{◌≡◌, refl, ap, sym, ◌∙◌}
 use native.Mathlib.Omega.{arith}
 use lib.Dec.{eqb, ltb}
 use lib.ListN.{length, drop, get_or, set, length-replicate}
@@ -26,10 +26,9 @@ use Rattle.machine.specs.Setup.{sound}
 use Rattle.machine.specs.Registers.{x_or_sp, written}
 use Rattle.machine.specs.Codes.{lowest, is_done}
 use Rattle.machine.proofs.Setup.{state_sized, state_status}
-use Rattle.instructions.specs.Accesses.{access_of}
 use Rattle.instructions.specs.WordOutcomes.{code_of, carried_out, word_outcome}
 use Rattle.instructions.specs.Inside.Effects.{Change, kept, zeroed, pair, Effect, new_bytes, new_tags, writes, applied, Within, form_effect}
-use Rattle.instructions.proofs.Outcomes.{Accepted, form_outcome}
+use Rattle.instructions.proofs.Outcomes.{form_outcome}
 use Rattle.instructions.proofs.Within.{form_within}
 use Rattle.history.specs.Records.{Entry, words_of, entry_in}
 use Rattle.history.specs.BadRecords.{not_zero, value_not_zero, tags_not_zero, data_not_zero, data_of_none, malformed}

@@ -1,5 +1,5 @@
 -- The bytes with the saved words stored in their part are the bytes with them put in at their place.
-use Rattle.std.proofs.Common.{◌≡◌, ℕ, ◌-◌, ◌*◌, List, length, get_or, take, drop, ◌++◌}
+use Rattle.std.proofs.Common.{◌≡◌, ℕ, ◌-◌, ◌*◌, List, length, get_or, take, drop}
 use Rattle.std.proofs.lemmas.List.Edits.{sets}
 use borrow.Rule.Slice.PartMut.{put_mid}
 use Rattle.bits.specs.Fields.{bits_at}

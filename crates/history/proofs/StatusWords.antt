@@ -1,8 +1,8 @@
 -- Laws of a status as a number. Assumes nothing.
 use Prim.Native.Nat.{ℕ, ◌+◌, ◌*◌, ◌/◌, ◌%◌, ◌^◌, ◌≤◌, ◌<◌}
-use mathlib.Core.Path.{◌≡◌, refl, sym, ap, ◌∙◌}
+use mathlib.Core.Path.{◌≡◌, sym, ap, ◌∙◌}
 use native.Mathlib.Omega.{arith}
-use Rattle.bits.specs.Fields.{bits_at, with_bits}
+use Rattle.bits.specs.Fields.{bits_at}
 use Rattle.machine.specs.declared.Status.{Status}
 use Rattle.history.specs.Inside.StatusWords.{status_word, status_in, IsStatus}
 
