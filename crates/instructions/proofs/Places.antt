@@ -1,5 +1,5 @@
 -- What the code of an access tells, and a place that was found. Assumes nothing.
-use Rattle.std.proofs.Common.{◌≡◌, ℕ, ◌+◌, ◌*◌, ◌%◌, ◌<◌, ◌≤◌, Bool, true, false, cond, not, ◌&&◌, eqb, sym, refl, ap, ◌∙◌, arith, eq-eqb, ne_eqb, eqb-true}
+use Rattle.std.proofs.Common.{◌≡◌, ℕ, ◌+◌, ◌*◌, ◌%◌, ◌<◌, ◌≤◌, Bool, true, false, cond, not, ◌&&◌, eqb, refl, arith, eq-eqb, ne_eqb, eqb-true}
 use mathlib.Core.Bool.{and-false, false≢true}
 use Rattle.isa.specs.declared.Mode.{Mode}
 use Rattle.isa.specs.declared.Mode.TheVariants.{Post, Pre, Offset}
@@ -12,7 +12,6 @@ use Rattle.memory.proofs.Locations.{located, within}
 use Rattle.machine.specs.declared.Code.{Code}
 use Rattle.machine.specs.declared.Code.TheVariants.{Done, SpAlign, Align, Outside}
 use Rattle.machine.specs.Codes.{lowest, is_done}
-use Rattle.instructions.specs.declared.accesses.Placed.{Placed}
 use Rattle.instructions.specs.declared.accesses.Placed.TheVariants.{First, Nowhere}
 use Rattle.instructions.specs.Accesses.{access, address_of, rounded_down}
 use Rattle.instructions.specs.Inside.Places.{access_code, placed_by, store_place, load_place}

@@ -1,8 +1,7 @@
 -- The numbers of an accepted form's effect are in range, and its granules inside. Assumes nothing.
-use Rattle.std.proofs.Common.{◌≡◌, ℕ, ◌*◌, ◌<◌, ◌≤◌, true, false, eqb, length, refl, arith}
+use Rattle.std.proofs.Common.{◌≡◌, ℕ, ◌*◌, ◌≤◌, true, eqb, length, refl, arith}
 use mathlib.Core.Bool.{false≢true}
 use lib.ListN.{length-replicate}
-use Rattle.bits.proofs.Fields.{field_lt}
 use Rattle.bits.proofs.Bounds.{cond_lt}
 use Rattle.isa.specs.declared.Mode.{Mode}
 use Rattle.isa.specs.declared.Mode.TheVariants.{Post, Pre, Offset}
@@ -22,7 +21,7 @@ use Rattle.machine.specs.Codes.{is_done}
 use Rattle.machine.specs.Registers.{x_or_sp, or_none}
 use Rattle.machine.proofs.Setup.{state_sized}
 use Rattle.instructions.specs.Accesses.{access, address_of, granules_named, writeback_to}
-use Rattle.instructions.specs.Inside.Effects.{Change, new_bytes, writes, Within, register_effect, store_effect, zeroing, form_effect}
+use Rattle.instructions.specs.Inside.Effects.{Change, new_bytes, Within, register_effect, store_effect, zeroing, form_effect}
 use Rattle.instructions.specs.Inside.Places.{access_code}
 use Rattle.instructions.proofs.Outcomes.{Accepted}
 use Rattle.instructions.proofs.Places.{accepted}

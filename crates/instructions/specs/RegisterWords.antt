@@ -1,5 +1,5 @@
 -- ADDG, SUBG, SUBP, SUBPS, GMI and IRG (document 01, "What each word does"; document 001 for ADDG).
-use Rattle.std.specs.Prelude.{ℕ, ◌+◌, ◌-◌, ◌*◌, ◌%◌, ◌^◌, cond, List, ◌==◌, bit_or}
+use Rattle.std.specs.Prelude.{ℕ, ◌+◌, ◌-◌, ◌*◌, ◌%◌, ◌^◌, cond, ◌==◌, bit_or}
 use Rattle.bits.specs.Fields.{bits_at, with_bits}
 use Rattle.isa.specs.declared.AddSubOp.{AddSubOp}
 use Rattle.isa.specs.declared.AddSubOp.TheVariants.{Addg, Subg}

@@ -1,5 +1,5 @@
 -- `instructions::accesses::misaligned` meets its contract. Assumes nothing.
-use Rattle.std.proofs.Common.{rules, eq-eqb, ne_eqb}
+use Rattle.std.proofs.Common.{eq-eqb, ne_eqb}
 use Rattle.instructions.proofs.accesses.misaligned.Goals as goal
 
 pub returns-then-n-eq31 : goal.returns-then-n-eq31

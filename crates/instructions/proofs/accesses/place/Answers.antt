@@ -1,5 +1,5 @@
 -- Assumes nothing.
-use Rattle.std.proofs.Common.{true, sym, ◌∙◌, arith}
+use Rattle.std.proofs.Common.{true, sym, ◌∙◌}
 use Rattle.instructions.proofs.Places.{place_misaligned, place_found, place_outside, sp_aligned}
 use Rattle.instructions.proofs.accesses.place.Goals as goal
 

@@ -1,5 +1,5 @@
 -- `instructions::accesses::writeback_to` meets its contract. Assumes nothing.
-use Rattle.std.proofs.Common.{◌≡◌, ℕ, zero, suc, ◌≤◌, refl, arith, rules}
+use Rattle.std.proofs.Common.{◌≡◌, ℕ, zero, suc, ◌≤◌, refl, arith}
 use Rattle.isa.specs.Inside.DecodingBranches.{mode_of}
 use Rattle.instructions.specs.Accesses.{writeback_to}
 use Rattle.instructions.proofs.accesses.writeback_to.Goals as goal

@@ -1,5 +1,4 @@
 -- `instructions::pointers::add_sub` meets its contract. Assumes nothing.
-use Rattle.std.proofs.Common.{rules}
 use Rattle.instructions.proofs.pointers.add_sub.Goals as goal
 
 pub returns : goal.returns

@@ -1,5 +1,4 @@
 -- `instructions::pointers::insert` meets its contract. Assumes nothing.
-use Rattle.std.proofs.Common.{rules}
 use Rattle.instructions.proofs.pointers.insert.Goals as goal
 
 pub returns : goal.returns

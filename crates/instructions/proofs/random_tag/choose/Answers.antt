@@ -1,5 +1,4 @@
 -- `instructions::random_tag::choose` meets its contract. Assumes nothing.
-use Rattle.std.proofs.Common.{rules}
 use Rattle.tag.proofs.TagChoice.{chosen_lt}
 use Rattle.instructions.proofs.random_tag.choose.Goals as goal
 

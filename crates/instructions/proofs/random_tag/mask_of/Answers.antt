@@ -1,5 +1,4 @@
 -- `instructions::random_tag::mask_of` meets its contract. Assumes nothing.
-use Rattle.std.proofs.Common.{rules}
 use Rattle.instructions.proofs.random_tag.mask_of.Goals as goal
 
 pub returns : goal.returns
