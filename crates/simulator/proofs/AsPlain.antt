@@ -1,4 +1,4 @@
--- A play from a well_formed_lem start with an empty history is the plain machine's: by demand 3. Assumes nothing.
+-- A play from a well-formed start with an empty history is the plain machine's: by demand 3. Assumes nothing.
 use Prim.Native.Nat.{ℕ}
 use mathlib.Core.Bool.{Bool, true, false, cond}
 use mathlib.Core.List.{List}

@@ -120,7 +120,7 @@ module _ (c : ℕ) where
   unfolding logging stacking
   same_state x p (beside s h ks u) = refl
 
--- From every well_formed_lem setup with an empty history, every list of steps, runs and steps back gets from the simulator of specs/Steps
+-- From every well-formed setup with an empty history, every list of steps, runs and steps back gets from the simulator of specs/Steps
 -- the codes and counts that it gets from the plain machine of specs/PlainMachine, and both end in one state. A step's code and state
 -- are those of instructions' specs/Words, in Arm's form; records and ring are those of history's specs/Recording and specs/Ring.
 pub demand3 : Demand3 simulator

@@ -129,7 +129,7 @@ module _ (start : Simulation) (list words codes counts : List ℕ) (code : PlayC
   unfolding play_of
   when_done_lem e codes' counts' after w =
       let done : code ≡ Done = is_done_lem code e in
-      rw (done, sym judged ∙ done) (λ i. played Done (length list) (w.codes-written i) (w.counts-written i) (w.final i))
+      rw (done, sym judged ∙ done) (λ i. played Done (length list) (w.codes_written i) (w.counts_written i) (w.final i))
 
   pub when_refused : (play_number code ≡ 0 → ⊥) → played code 0 codes counts start ≡ play_of simulator start list words codes counts
   unfolding play_of

@@ -19,7 +19,7 @@ plain_beside start = plain_machine (slots_of (length start.history.words))
 abbrev pub plain_start : Simulation → Plain
 plain_start start = record { state = start.state; copies = [] }
 
--- Start from any well_formed_lem setup with an empty history: held = 0, whatever next is and its words hold.
+-- Start from any well-formed setup with an empty history: held = 0, whatever next is and its words hold.
 unfoldable pub Demand3 : Callable Simulation → Type 0
 Demand3 ours =
     (start : Simulation) → Typed start.state → well_formed start ≡ true → start.history.cursor.held ≡ 0 → (list : List Call)

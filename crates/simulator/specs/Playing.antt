@@ -95,7 +95,7 @@ play_of {X} m start numbers words codes counts =
 abbrev pub on_state : {X : Type 0} → (X → State) → Played X → Played State
 on_state state p = played p.code p.count p.codes p.counts (state p.after)
 
--- Demand 3 of one play: from a well_formed_lem start with an empty history, the code of the list, every code and count of its calls and
+-- Demand 3 of one play: from a well-formed start with an empty history, the code of the list, every code and count of its calls and
 -- the whole state after them are what the plain machine gives on the same list.
 unfoldable pub AsPlain : Simulation → List ℕ → List ℕ → List ℕ → List ℕ → Played Simulation → Type 0
 AsPlain start numbers words codes counts p =

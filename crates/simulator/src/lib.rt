@@ -16,14 +16,14 @@ pub use playing::{BACK, PlayCode, Played, RUN, STEP, play};
 mod playing;
 
 // The code of a step or a step back, and the machine after it.
-#[derive(Drop)]
+#[derive(Clone, Copy)]
 pub struct Stepped {
     pub code: Code,
     pub machine: Machine,
 }
 
 // The code of a run, how many words were done, and the machine after them.
-#[derive(Drop)]
+#[derive(Clone, Copy)]
 pub struct Ran {
     pub code: Code,
     pub count: usize,

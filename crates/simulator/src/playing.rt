@@ -25,7 +25,7 @@ pub const STEP: usize = 1;
 pub const RUN: usize = 2;
 
 // The code of a list: it was played, or why it was not.
-#[derive(Drop)]
+#[derive(Clone, Copy)]
 pub enum PlayCode {
     Done,
     NoRoom,
@@ -45,7 +45,7 @@ impl PlayCode {
 }
 
 // The code of a list, how many of its calls were played, and the machine after them.
-#[derive(Drop)]
+#[derive(Clone, Copy)]
 pub struct Played {
     pub code: PlayCode,
     pub count: usize,
@@ -147,7 +147,7 @@ fn make_call(
 }
 
 // The status and the cursor after a list.
-#[derive(Drop)]
+#[derive(Clone, Copy)]
 struct AfterList {
     status: u64,
     cursor: Cursor,
