@@ -1,7 +1,7 @@
 -- The rule of the cursor: what it tells, and that a record put in or taken out keeps it. Assumes nothing.
 use Rattle.std.proofs.Common.{◌≡◌, ℕ, ◌+◌, ◌-◌, ◌*◌, ◌<◌, Bool, true, false, cond, ◌&&◌, eqb, ltb, leb, List, length, refl, mod-lt, arith, ltb-true, lt-ltb, eq-eqb, eqb-true, le-leb, leb-true}
 use mathlib.Core.Bool.{and-eq-true_iff}
-use lib.Seq.{sets, length-sets}
+use lib.Seq.{length-sets}
 use borrow.Author.Tests.{eqb-false}
 use Rattle.machine.specs.declared.Cursor.{Cursor}
 use Rattle.machine.specs.Setup.{cursor_ok}

@@ -1,25 +1,21 @@
 -- A decoded word taken on a setup that keeps the rules is a step. Assumes nothing.
-use Rattle.std.proofs.Common.{◌≡◌, ℕ, ◌*◌, Bool, true, false, cond, List, length, sym, refl, ap, ◌∙◌}
+use Rattle.std.proofs.Common.{◌≡◌, ℕ, ◌*◌, Bool, true, false, cond, length, refl}
 use Rattle.isa.specs.declared.Form.{Form}
 use Rattle.isa.specs.declared.Decoded.{Decoded}
 use Rattle.isa.specs.declared.Decoded.TheVariants.{Is, Undefined as NoForm}
 use Rattle.isa.specs.Decoding.{decode_of}
 use Rattle.memory.specs.Sizes.{sizes_ok}
 use Rattle.machine.specs.Codes.{lowest, is_done}
-use Rattle.machine.specs.State.{State}
 use Rattle.machine.proofs.Setup.{state_sized, state_sizes}
 use Rattle.instructions.specs.Accesses.{access_of}
-use Rattle.instructions.specs.WordOutcomes.{code_of, carried_out, operation, word_outcome}
-use Rattle.instructions.specs.Inside.Effects.{applied, form_effect}
+use Rattle.instructions.specs.WordOutcomes.{code_of, carried_out, word_outcome}
 use Rattle.instructions.specs.Inside.Places.{access_code}
 use Rattle.instructions.proofs.Outcomes.{form_outcome}
 use Rattle.history.specs.Ring.{capacity, pushed}
 use Rattle.history.specs.Recording.{record_of}
-use Rattle.history.specs.Records.{words_of}
-use Rattle.history.specs.Inside.Slots.{entry_on}
 use Rattle.history.specs.Inside.StatusWords.{IsStatus}
 use Rattle.history.proofs.Recorded.{form_entry}
-use Rattle.execution.specs.Calls.{Out, refused, done, when_done}
+use Rattle.execution.specs.Calls.{Out, when_done}
 use Rattle.execution.specs.Simulation.{Simulation, well_formed}
 use Rattle.execution.specs.Steps.{step_of}
 use Rattle.execution.specs.Inside.Taking.{Ready, form_taken, decoded_taken}
