@@ -75,8 +75,8 @@ module _ (pointer base : ℕ) (bytes tags : List ℕ) where
       go : (t : Bool) → points_inside pointer base bytes tags ≡ t → part ≡ reachable_of pointer base bytes tags
       go true h =
           same_longest (offset_of base pointer) (tag_of pointer) bytes tags part (reachable_of pointer base bytes tags)
-          (r.longest-inside h) (reached_longest h)
-      go false h = r.empty-else h ∙ sym (empty_part pointer base bytes tags h)
+          (r.longest_inside h) (reached_longest h)
+      go false h = r.empty_else h ∙ sym (empty_part pointer base bytes tags h)
 
 pub the_reachable_part : TheReachablePart
 the_reachable_part =
