@@ -44,6 +44,7 @@ pub fn read(rt: &HostRuntime, room: &mut [u8], failed: &[u8]) -> usize
 }
 
 // Standard output, until a write fails.
+#[derive(Drop)]
 pub struct Output<'a> {
     rt: &'a HostRuntime,
     has_failed: Cell<bool>,
