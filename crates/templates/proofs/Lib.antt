@@ -5,6 +5,7 @@ pub mod FirstRows
 pub mod OneLine
 pub mod OwnTemplate
 pub mod Places
+pub mod PutLine
 pub mod Reading
 pub mod Rows
 pub mod Table

@@ -10,7 +10,7 @@ ghost use Rattle.templates.specs.Templates.{template_at, piece_of, register_of, 
 pub mod reader;
 
 // The registers in the order in which a line names them, the amount modulo 2^64, and the tag offset.
-#[derive(Drop)]
+#[derive(Clone, Copy)]
 pub struct Fields {
     pub first: u64,
     pub second: u64,
@@ -20,7 +20,7 @@ pub struct Fields {
 }
 
 // What a byte of a template stands for.
-#[derive(Drop)]
+#[derive(Clone, Copy)]
 pub(crate) enum Piece {
     Literal,
     SpRegister,
@@ -30,14 +30,14 @@ pub(crate) enum Piece {
 }
 
 // What a template reads in a text.
-#[derive(Drop)]
+#[derive(Clone, Copy)]
 pub(crate) enum Match {
     Of(Fields),
     Mismatch,
 }
 
 // The row of the template that reads a text, with the fields that it reads.
-#[derive(Drop)]
+#[derive(Clone, Copy)]
 pub enum Row {
     Reads { row: usize, fields: Fields },
     Nothing,

@@ -7,14 +7,14 @@ ghost use Rattle.templates.specs.Templates.{templates, template_at};
 use super::{Fields, Match, Piece, Row};
 
 // A number that is read, and the place behind it.
-#[derive(Drop)]
+#[derive(Clone, Copy)]
 struct Number {
     value: u64,
     next: usize,
 }
 
 // What reading on by one byte of a template comes to: whether the text fits, the place behind what was read, and the fields.
-#[derive(Drop)]
+#[derive(Clone, Copy)]
 struct Turn {
     fits: bool,
     next: usize,

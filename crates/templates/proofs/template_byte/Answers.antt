@@ -4,13 +4,11 @@ use mathlib.Core.Bool.{Bool}
 use mathlib.Core.List.{List, [], ◌∷◌, ◌++◌}
 use Prim.Native.Nat.{ℕ, ◌+◌, ◌-◌, ◌*◌, ◌/◌, ◌%◌}
 use native.Mathlib.Omega.{arith}
-use borrow.Author.Rules.{rules}
 use lib.Dec.{eqb, eqb→eq}
 use lib.ListN.{get_or, length, replicate}
 use Rattle.templates.specs.Templates.{templates, template_at}
 use Rattle.templates.proofs.Table.{at}
-use Rattle.templates.proofs.template_byte.Statement.{statement}
-use Rattle.templates.proofs.template_byte.Tie as tie
+use Rattle.templates.proofs.template_byte.Goals as goal
 
 -- each template with zeros up to 24 bytes
 padded : List (List ℕ) → List ℕ
@@ -20,16 +18,7 @@ padded (t ∷ ts) = (t ++ replicate (24 - length t) 0) ++ padded ts
 right : ℕ → ℕ → Bool
 right k x = eqb x (get_or (template_at (k / 24)) (k % 24) 0)
 
-mul-result : tie.Need-overflow-mul-result
-mul-result c = search rules
-
-add-result : tie.Need-overflow-add-result
-add-result c = search rules
-
-array-read-result : tie.Need-array-read-result
-array-read-result c = search rules
-
-returns : tie.Need-returns
+pub returns : goal.returns
 unfolding right templates template_at padded
 returns c =
     let a = c.args in
@@ -38,6 +27,3 @@ returns c =
     let place : k % 24 ≡ a.i = omega arith in
     eqb→eq (get_or (padded templates) k 0) (get_or (template_at (k / 24)) (k % 24) 0) (at right (padded templates) tt k (omega arith))
     ∙ rw (row, place)
-
-pub template-byte-spec : {M : Type 1} → statement M
-template-byte-spec = tie.close (tie.spec mul-result add-result array-read-result returns)
