@@ -5,6 +5,7 @@
 ghost use Rattle.std.specs.Prelude.{◌≤◌, length};
 
 use machine::Machine;
+use stdio::Output;
 use workload::{MOST_BACKS, MOST_CALLS, MOST_GRANULES, MOST_SLOTS, MOST_WORDS, ROOM};
 
 mod rounds;
@@ -33,23 +34,24 @@ fn state_checksum(machine: Machine, data: &[u8], tags: &[u8], history: &[u64]) -
     checksum::with_words(c, history)
 }
 
-fn write(bytes: &[u8]) {
-    stdio::write(bytes, b"bench: cannot write standard output");
+fn write(to: &Output<'_>, bytes: &[u8]) {
+    stdio::write(to, bytes, b"bench: cannot write standard output");
 }
 
-fn write_bad() {
-    write(b"bad\n");
+fn write_bad(to: &Output<'_>) {
+    write(to, b"bad\n");
 }
 
-fn write_end(done: u64, sum: u64) {
+fn write_end(to: &Output<'_>, done: u64, sum: u64) {
     let mut out = *b"words=0000000000000000\nchecksum=0000000000000000\n";
     text::put_hex(&mut out, 6, 16, done);
     text::put_hex(&mut out, 32, 16, sum);
-    write(&out);
+    write(to, &out);
 }
 
 // Goes through the rounds on memories and a history of their sizes, and writes what became of it.
 fn measure(
+    to: &Output<'_>,
     input: &[u8; ROOM],
     calls: &[usize],
     words: &[u32],
@@ -74,11 +76,12 @@ fn measure(
         history,
     );
     let machine = end.machine;
-    write_end(end.done, state_checksum(machine, data, tags, history));
+    write_end(to, end.done, state_checksum(machine, data, tags, history));
 }
 
 // Goes through a workload on as many granules and slots as it asks for, unless it asks for more than there are.
 fn on_memories(
+    to: &Output<'_>,
     input: &[u8; ROOM],
     calls: &[usize],
     words: &[u32],
@@ -102,6 +105,7 @@ fn on_memories(
     let d = 16 * t;
     let h = 8 * slots as usize;
     measure(
+        to,
         input,
         calls,
         words,
@@ -116,6 +120,7 @@ fn on_memories(
 
 // Goes through a workload with its list of calls and its words.
 fn on_lists(
+    to: &Output<'_>,
     input: &[u8; ROOM],
     calls: &[usize; MOST_CALLS],
     k: usize,
@@ -130,6 +135,7 @@ fn on_lists(
     let all_calls = &calls[..];
     let all_words = &words[..];
     on_memories(
+        to,
         input,
         &all_calls[..k],
         &all_words[..n],
@@ -139,7 +145,7 @@ fn on_lists(
 }
 
 // Goes through a workload with so many words and, in a list, so many steps back.
-fn on_words(input: &[u8; ROOM], n: usize, backs: usize) -> bool
+fn on_words(to: &Output<'_>, input: &[u8; ROOM], n: usize, backs: usize) -> bool
     requires n_bound { n ≤ 65536 }
     requires backs_bound { backs ≤ 1024 }
 {
@@ -149,11 +155,11 @@ fn on_words(input: &[u8; ROOM], n: usize, backs: usize) -> bool
     let mut calls = [simulator::BACK; MOST_CALLS];
     let kind = workload::number(input, workload::KIND);
     let taking = workload::put_calls(kind, n, &mut calls);
-    on_lists(input, &calls, taking + backs, &words, n)
+    on_lists(to, input, &calls, taking + backs, &words, n)
 }
 
 // Goes through a workload of so many bytes, unless it is none.
-fn bench(input: &[u8; ROOM], bytes: usize) -> bool {
+fn bench(to: &Output<'_>, input: &[u8; ROOM], bytes: usize) -> bool {
     let n = workload::number(input, workload::WORDS) as usize;
     let backs = workload::number(input, workload::BACKS);
     if MOST_WORDS < n {
@@ -168,13 +174,14 @@ fn bench(input: &[u8; ROOM], bytes: usize) -> bool {
     if !workload::values_ok(input) {
         return false;
     }
-    on_words(input, n, backs as usize)
+    on_words(to, input, n, backs as usize)
 }
 
-fn main() {
+fn main(rt: HostRuntime) {
+    let to = &stdio::open(&rt);
     let mut input = [0u8; ROOM];
-    let bytes = stdio::read(&mut input, b"bench: cannot read standard input");
-    if !bench(&input, bytes) {
-        write_bad();
+    let bytes = stdio::read(&rt, &mut input, b"bench: cannot read standard input");
+    if !bench(to, &input, bytes) {
+        write_bad(to);
     }
 }

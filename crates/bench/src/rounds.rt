@@ -5,7 +5,7 @@ use super::workload::{MOST_CALLS, RUN, STEPS};
 use machine::{Code, Cursor, Machine};
 
 // What rounds leave: the machine, and how many words and steps back were done.
-#[derive(Drop)]
+#[derive(Clone, Copy)]
 pub(crate) struct Progress {
     pub machine: Machine,
     pub done: u64,

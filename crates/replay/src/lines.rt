@@ -3,7 +3,7 @@ use super::kinds;
 
 // A line: its kind, its numbers with zeros behind them, and the place after it in the script. A wrong line and one that is only
 // written have the place 0.
-#[derive(Drop)]
+#[derive(Clone, Copy)]
 pub(crate) struct Line {
     pub(crate) kind: u64,
     pub(crate) values: [u64; 5],
@@ -22,7 +22,7 @@ impl Line {
 
 // What a kind of line looks like: its key, which is the first `key_length` bytes, and how many digits each number has, 0 where
 // there is no number.
-#[derive(Drop)]
+#[derive(Clone, Copy)]
 pub(crate) struct Shape {
     pub(crate) key: [u8; 8],
     pub(crate) key_length: usize,

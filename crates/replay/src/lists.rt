@@ -10,7 +10,7 @@ pub(crate) const MOST_CALLS: usize = 0x1000;
 pub(crate) const MOST_TAKEN: usize = 0x4000;
 
 // What is collected, and how it is played. A fresh start leaves how it is played as it is.
-#[derive(Drop)]
+#[derive(Clone, Copy)]
 pub(crate) struct Collector {
     // Whether calls are collected, and not played by themselves.
     play: bool,

@@ -7,6 +7,7 @@ ghost use Rattle.std.specs.Prelude.{◌≤◌, length};
 use lines::Line;
 use lists::{MOST_CALLS, MOST_TAKEN};
 use player::{MOST_DATA, MOST_HISTORY, MOST_LISTED, MOST_TAGS};
+use stdio::Output;
 
 mod answers;
 mod forms;
@@ -39,16 +40,17 @@ fn first_wrong_line(s: &[u8]) -> usize {
 }
 
 // Writes the number of a wrong line, or 0 for a script that is too long.
-fn write_bad(number: usize, out: &mut [u8])
+fn write_bad(to: &Output<'_>, number: usize, out: &mut [u8])
     requires { 128 ≤ length out.old }
 {
     let line = Line::of(kinds::BAD, [number as u64, 0, 0, 0, 0]);
-    let n = writer::put_line(out, 0, line);
-    writer::write(&out[..n]);
+    let n = writer::put_line(to, out, 0, line);
+    writer::write(to, &out[..n]);
 }
 
 // Plays a script that has no wrong line. Its end is played like a line too, as it ends a list of calls.
 fn play(
+    to: &Output<'_>,
     s: &[u8],
     tags: &mut [u8],
     data: &mut [u8],
@@ -65,7 +67,7 @@ fn play(
     loop {
         let line = reader::read(s, at);
         let after = playing::play_line(
-            progress, line, tags, data, history, list, calls, words, out,
+            to, progress, line, tags, data, history, list, calls, words, out,
         );
         progress = after;
         if line.next <= at {
@@ -74,10 +76,11 @@ fn play(
         at = line.next;
     }
     let filled = progress.filled;
-    writer::write(&out[..filled]);
+    writer::write(to, &out[..filled]);
 }
 
 fn replay(
+    rt: &HostRuntime,
     input: &mut [u8],
     tags: &mut [u8],
     data: &mut [u8],
@@ -89,22 +92,24 @@ fn replay(
 )
     requires { 128 ≤ length out.old }
 {
-    let n = stdio::read(input, b"replay: cannot read standard input");
+    let to = &stdio::open(rt);
+    let n = stdio::read(rt, input, b"replay: cannot read standard input");
     if n == input.len() {
-        write_bad(0, out);
+        write_bad(to, 0, out);
         return;
     }
     let script = &input[..n];
     let wrong = first_wrong_line(script);
     if wrong == 0 {
-        play(script, tags, data, history, list, calls, words, out);
+        play(to, script, tags, data, history, list, calls, words, out);
     } else {
-        write_bad(wrong, out);
+        write_bad(to, wrong, out);
     }
 }
 
 // Lends the arrays as slices, here where their types say how long they are.
 fn lend(
+    rt: &HostRuntime,
     input: &mut [u8; ROOM],
     tags: &mut [u8; MOST_TAGS],
     data: &mut [u8; MOST_DATA],
@@ -114,10 +119,10 @@ fn lend(
     words: &mut [u32; MOST_TAKEN],
     out: &mut [u8; 65536],
 ) {
-    replay(input, tags, data, history, list, calls, words, out);
+    replay(rt, input, tags, data, history, list, calls, words, out);
 }
 
-fn main() {
+fn main(rt: HostRuntime) {
     let mut input = [0u8; ROOM];
     let mut tags = [0u8; MOST_TAGS];
     let mut data = [0u8; MOST_DATA];
@@ -127,6 +132,7 @@ fn main() {
     let mut words = [0u32; MOST_TAKEN];
     let mut out = [0u8; 65536];
     lend(
+        &rt,
         &mut input,
         &mut tags,
         &mut data,

@@ -14,7 +14,7 @@ pub(crate) const MOST_HISTORY: usize = 0x2010;
 
 pub(crate) const MOST_LISTED: usize = 0x1000;
 
-#[derive(Drop)]
+#[derive(Clone, Copy)]
 pub(crate) struct Player {
     pub(crate) machine: Machine,
     // How many tag bytes, data bytes and history words are the machine's.

@@ -7,9 +7,10 @@ use super::lists::{Collector, MOST_CALLS};
 use super::numbers::at_most;
 use super::player::Player;
 use super::{answers, kinds, lists, player};
+use stdio::Output;
 
 // How far a script is played: the player, what is collected, and how many bytes of the buffer are filled.
-#[derive(Drop)]
+#[derive(Clone, Copy)]
 pub(crate) struct Progress {
     player: Player,
     collector: Collector,
@@ -59,6 +60,7 @@ fn after_list(
 
 // Puts the line of each call of a list that was played.
 fn put_codes(
+    to: &Output<'_>,
     count: usize,
     calls: &[usize],
     codes: &[u32],
@@ -75,7 +77,7 @@ fn put_codes(
     let mut i = 0;
     while i < end {
         let is_run = simulator::RUN <= calls[i];
-        n = answers::put_code(is_run, codes[i], counts[i], out, n);
+        n = answers::put_code(to, is_run, codes[i], counts[i], out, n);
         i += 1;
     }
     n
@@ -83,6 +85,7 @@ fn put_codes(
 
 // Puts the answer of a list of calls, given the player after it.
 fn put_list(
+    to: &Output<'_>,
     player: Player,
     tags: &[u8],
     data: &[u8],
@@ -97,9 +100,16 @@ fn put_list(
     ensures { Filled result out.new }
 {
     let count = player.count;
-    let a = answers::put_two(out, filled, kinds::PLAYED, player.code as u64, count as u64);
-    let b = put_codes(count, calls, codes, counts, out, a);
-    answers::put_dump(player, tags, data, history, out, b)
+    let a = answers::put_two(
+        to,
+        out,
+        filled,
+        kinds::PLAYED,
+        player.code as u64,
+        count as u64,
+    );
+    let b = put_codes(to, count, calls, codes, counts, out, a);
+    answers::put_dump(to, player, tags, data, history, out, b)
 }
 
 // The player after what is collected was played, lent as many places and words as `lend` allows.
@@ -132,6 +142,7 @@ fn after_collected(
 
 // Plays what is collected, and puts its answer.
 fn play_list(
+    to: &Output<'_>,
     progress: Progress,
     tags: &mut [u8],
     data: &mut [u8],
@@ -160,7 +171,7 @@ fn play_list(
     );
     let filled = progress.filled;
     let n = put_list(
-        player, tags, data, history, calls, &codes, &counts, out, filled,
+        to, player, tags, data, history, calls, &codes, &counts, out, filled,
     );
     Progress {
         player,
@@ -171,6 +182,7 @@ fn play_list(
 
 // Plays what is collected if a line ends the list.
 fn before_line(
+    to: &Output<'_>,
     progress: Progress,
     line: Line,
     tags: &mut [u8],
@@ -185,7 +197,7 @@ fn before_line(
 {
     let collector = progress.collector;
     if lists::is_ended(collector, line.kind, line.values[0]) {
-        play_list(progress, tags, data, history, calls, words, out)
+        play_list(to, progress, tags, data, history, calls, words, out)
     } else {
         progress
     }
@@ -213,6 +225,7 @@ fn collect(
 
 // Plays a line by itself.
 fn play_alone(
+    to: &Output<'_>,
     progress: Progress,
     line: Line,
     tags: &mut [u8],
@@ -227,7 +240,7 @@ fn play_alone(
     let player = progress.player;
     let collector = progress.collector;
     let after = player::after(player, line, tags, data, history, list);
-    let filled = answers::put_answer(after, line, tags, data, history, out, progress.filled);
+    let filled = answers::put_answer(to, after, line, tags, data, history, out, progress.filled);
     Progress {
         player: after,
         collector: lists::after(collector, line),
@@ -237,6 +250,7 @@ fn play_alone(
 
 // Puts a line into the list of calls, or plays it by itself.
 fn collect_or_play(
+    to: &Output<'_>,
     progress: Progress,
     line: Line,
     tags: &mut [u8],
@@ -254,12 +268,13 @@ fn collect_or_play(
     if lists::is_collected(collector, line.kind) {
         collect(progress, line, list, calls, words)
     } else {
-        play_alone(progress, line, tags, data, history, list, out)
+        play_alone(to, progress, line, tags, data, history, list, out)
     }
 }
 
 // Plays a line, and before it the list of calls that it ends.
 pub(crate) fn play_line(
+    to: &Output<'_>,
     progress: Progress,
     line: Line,
     tags: &mut [u8],
@@ -273,6 +288,8 @@ pub(crate) fn play_line(
     requires { Filled progress.filled out.old }
     ensures { Filled result.filled out.new }
 {
-    let before = before_line(progress, line, tags, data, history, calls, words, out);
-    collect_or_play(before, line, tags, data, history, list, calls, words, out)
+    let before = before_line(to, progress, line, tags, data, history, calls, words, out);
+    collect_or_play(
+        to, before, line, tags, data, history, list, calls, words, out,
+    )
 }

@@ -22,7 +22,7 @@ fn after_key(s: &[u8], at: usize, key: [u8; 8], key_length: usize) -> usize {
 }
 
 // A number and the place after it, which is 0 where no such number stands.
-#[derive(Drop)]
+#[derive(Clone, Copy)]
 struct Number {
     value: u64,
     next: usize,

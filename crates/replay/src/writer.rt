@@ -4,20 +4,21 @@ ghost use Rattle.replay.specs.Inside.Buffer.{Filled};
 
 use super::lines::{Line, separator, shape_of};
 use super::numbers::at_most;
+use stdio::Output;
 
-pub(crate) fn write(bytes: &[u8]) {
-    stdio::write(bytes, b"replay: cannot write standard output");
+pub(crate) fn write(to: &Output<'_>, bytes: &[u8]) {
+    stdio::write(to, bytes, b"replay: cannot write standard output");
 }
 
 // Where the next line goes, with room for the longest. A buffer that has no such room is written first.
-fn place_for_line(out: &[u8], filled: usize) -> usize
+fn place_for_line(to: &Output<'_>, out: &[u8], filled: usize) -> usize
     requires { Filled filled out.now }
     ensures { result + 128 ≤ length out.now }
 {
     if filled <= out.len() - 128 {
         return filled;
     }
-    write(&out[..filled]);
+    write(to, &out[..filled]);
     0
 }
 
@@ -46,7 +47,7 @@ fn put_number(out: &mut [u8], at: usize, before: u8, width: usize, value: u64) -
 }
 
 // Puts a line behind the first `filled` bytes of the buffer, and answers how many are filled then.
-pub(crate) fn put_line(out: &mut [u8], filled: usize, line: Line) -> usize
+pub(crate) fn put_line(to: &Output<'_>, out: &mut [u8], filled: usize, line: Line) -> usize
     requires { Filled filled out.old }
     ensures { Filled result out.new }
 {
@@ -54,7 +55,7 @@ pub(crate) fn put_line(out: &mut [u8], filled: usize, line: Line) -> usize
     let key = shape.key;
     let widths = shape.widths;
     let values = line.values;
-    let start = place_for_line(out, filled);
+    let start = place_for_line(to, out, filled);
     let mut place = put_key(out, start, key, shape.key_length);
     let mut i = 0;
     while i < 5 {

@@ -5,6 +5,7 @@
 use isa::{Form, Mode, TagStoreOp};
 use machine::Machine;
 use simulator::{BACK, RUN, STEP};
+use stdio::Output;
 
 mod lines;
 
@@ -35,6 +36,7 @@ fn tag_store(op: TagStoreOp, mode: Mode, n: u64, amount: u64) -> u32 {
 
 // Tags both blocks, each with the tag of its pointer.
 fn tag_blocks(
+    to: &Output<'_>,
     machine: Machine,
     data: &mut [u8; 64],
     tags: &mut [u8; 4],
@@ -47,13 +49,14 @@ fn tag_blocks(
     let ran = simulator::run(machine, &words, data, tags, history);
     let code = ran.code;
     let after = ran.machine;
-    lines::write_run(ran.count);
-    lines::write_after(code, after, tags);
+    lines::write_run(to, ran.count);
+    lines::write_after(to, code, after, tags);
     after
 }
 
 // Tags granule after granule through X0, until a step is refused.
 fn walk(
+    to: &Output<'_>,
     machine: Machine,
     data: &mut [u8; 64],
     tags: &mut [u8; 4],
@@ -67,8 +70,8 @@ fn walk(
         let code = answer.code;
         let after = answer.machine;
         machine = after;
-        lines::write_step(word);
-        lines::write_after(code, machine, tags);
+        lines::write_step(to, word);
+        lines::write_after(to, code, machine, tags);
         if code.number() != 0 {
             return machine;
         }
@@ -78,17 +81,24 @@ fn walk(
 }
 
 // Steps back once.
-fn back(machine: Machine, data: &mut [u8; 64], tags: &mut [u8; 4], history: &[u64; 32]) -> Machine {
+fn back(
+    to: &Output<'_>,
+    machine: Machine,
+    data: &mut [u8; 64],
+    tags: &mut [u8; 4],
+    history: &[u64; 32],
+) -> Machine {
     let answer = simulator::step_back(machine, data, tags, history);
     let code = answer.code;
     let after = answer.machine;
-    lines::write_back();
-    lines::write_after(code, after, tags);
+    lines::write_back(to);
+    lines::write_after(to, code, after, tags);
     after
 }
 
 // Steps back until the next block's first granule has its own tag again.
 fn back_to_block(
+    to: &Output<'_>,
     machine: Machine,
     data: &mut [u8; 64],
     tags: &mut [u8; 4],
@@ -100,14 +110,14 @@ fn back_to_block(
         if tags[2] == 9 {
             return machine;
         }
-        machine = back(machine, data, tags, history);
+        machine = back(to, machine, data, tags, history);
         calls += 1;
     }
     machine
 }
 
 // The same calls up to where X0 left its block, as one list, on memories and a history of their own.
-fn in_one_list() {
+fn in_one_list(to: &Output<'_>) {
     let word = tag_store(TagStoreOp::Stg, Mode::Post, 0, 16);
     let calls = [RUN + 2, STEP, STEP, STEP, STEP, STEP, BACK, BACK];
     let words = [
@@ -136,20 +146,21 @@ fn in_one_list() {
     );
     let code = played.code;
     let after = played.machine;
-    lines::write_list(code, played.count, &codes, after);
+    lines::write_list(to, code, played.count, &codes, after);
 }
 
 // Four granules and a history of four slots.
-fn main() {
+fn main(rt: HostRuntime) {
+    let to = &stdio::open(&rt);
     let mut data = [0u8; 64];
     let mut tags = [0u8; 4];
     let mut history = [0u64; 32];
-    let tagged = tag_blocks(start(), &mut data, &mut tags, &mut history);
-    let outside = walk(tagged, &mut data, &mut tags, &mut history);
-    let left = back_to_block(outside, &mut data, &mut tags, &history);
-    lines::write_place(left, tags[2]);
-    let second = back(left, &mut data, &mut tags, &history);
-    let first = back(second, &mut data, &mut tags, &history);
-    back(first, &mut data, &mut tags, &history);
-    in_one_list();
+    let tagged = tag_blocks(to, start(), &mut data, &mut tags, &mut history);
+    let outside = walk(to, tagged, &mut data, &mut tags, &mut history);
+    let left = back_to_block(to, outside, &mut data, &mut tags, &history);
+    lines::write_place(to, left, tags[2]);
+    let second = back(to, left, &mut data, &mut tags, &history);
+    let first = back(to, second, &mut data, &mut tags, &history);
+    back(to, first, &mut data, &mut tags, &history);
+    in_one_list(to);
 }
