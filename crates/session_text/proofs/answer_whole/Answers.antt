@@ -1,12 +1,8 @@
 -- `session_text::answer_whole` meets its contract: what is put is the text of the run, or of the wrong line. Assumes nothing.
-use borrow.Author.Rules.{rules}
-use Prim.Native.Nat.{◌-◌, ◌≤◌}
-use mathlib.Core.List.{◌++◌}
 use mathlib.Core.Path.{◌≡◌, sym, ap, ◌∙◌}
 use native.Mathlib.Omega.{arith}
-use lib.ListN.{length, take}
+use lib.ListN.{length}
 use lib.Seq.{sets, length-take-le}
-use Rattle.session_text.specs.Parsing.{good, parsed}
 use Rattle.session_text.proofs.Answers.{answer_bad, answer_good, fits}
 use Rattle.session_text.proofs.Printed.{bad_long}
 use Rattle.session_text.proofs.answer_whole.Goals as goal

@@ -1,5 +1,4 @@
 -- `session_text::printer::put_answer` meets its contract. Assumes nothing.
-use borrow.Author.Rules.{rules}
 use mathlib.Core.Path.{◌∙◌}
 use native.Mathlib.Omega.{arith}
 use Rattle.session_text.specs.Printing.{answer_lines}

@@ -1,5 +1,4 @@
 -- `session_text::runner::machine_of` meets its contract. Assumes nothing.
-use borrow.Author.Rules.{rules}
 use Rattle.session_text.specs.Run.{machine_for}
 use Rattle.session_text.proofs.runner.machine_of.Goals as goal
 

@@ -1,5 +1,4 @@
 -- `session_text::runner::run` meets its contract. Assumes nothing.
-use borrow.Author.Rules.{rules}
 use Rattle.session_text.specs.Run.{simulation_of}
 use Rattle.session_text.proofs.runner.run.Goals as goal
 
