@@ -1,16 +1,10 @@
 -- `stepping::take_all` meets its contract. The loop's invariant: the run is what is left of it, with as many words done as are
 -- passed, and a status that is one. The measure is the words left. Assumes nothing.
-use borrow.Author.Rules.{rules}
 use Prim.Native.Nat.{◌-◌, ◌≤◌}
-use mathlib.Core.Path.{◌≡◌, sym, ap, ◌∙◌}
-use native.Mathlib.Omega.{arith}
 use lib.ListN.{length}
 use Rattle.history.specs.Inside.StatusWords.{IsStatus}
-use Rattle.execution.specs.Calls.{returned}
-use Rattle.execution.specs.Simulation.{Simulation}
 use Rattle.execution.specs.Inside.Taking.{gathered}
-use Rattle.execution.proofs.Kept.{took_done, took_refused}
-use Rattle.stepping.proofs.Runs.{Reached, at_start, at_end, at_refusal, one_on}
+use Rattle.stepping.proofs.Runs.{Reached}
 use Rattle.stepping.proofs.take_all.Given as goal
 
 abbrev pub invariant-loop-i : goal.invariant-loop-i
