@@ -164,7 +164,7 @@ own_template f fit = own_row (row_of f) (fields_of f) fit (row_small f)
 own_line : (f : Form) (w : ℕ) → decode_of w ≡ Is f → read_by_method (line_of f) ≡ Word w
 own_line f w e =
     method_short (line_of f) _ (line_short f) (own_template f (fits f (decoded_fits w f e)))
-    ∙ ap (read_form (line_of f)) (form_again f) ∙ form_read (line_of f) f w refl (round_trip.reads-back w f e)
+    ∙ ap (read_form (line_of f)) (form_again f) ∙ form_read (line_of f) f w refl (round_trip.reads_back w f e)
 
 -- and what the method reads to a word is that word's line
 

@@ -1,7 +1,5 @@
 -- Laws of the definitions, for the proofs here and in the crates above.
-pub mod Again
 pub mod ByMethod
-pub mod Held
 pub mod Lengths
 pub mod OneLine
 pub mod RoundTrip

@@ -1,0 +1,10 @@
+use borrow.Author.Tests.{eq-eqb, ne_eqb}
+use Rattle.listing.proofs.lines.add_sub_at.Goals as goal
+
+pub returns-then-row-eq0 : goal.returns-then-row-eq0
+returns-then-row-eq0 c =
+    simp (eq-eqb _ _ c.if-row-eq0.true)
+
+pub returns-else-row-eq0 : goal.returns-else-row-eq0
+returns-else-row-eq0 c =
+    simp (ne_eqb _ _ c.if-row-eq0.false)
