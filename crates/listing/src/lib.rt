@@ -15,14 +15,14 @@ use templates::Row;
 mod lines;
 
 // The code of a call, and the place of the next line.
-#[derive(Drop)]
+#[derive(Clone, Copy)]
 pub struct Listed {
     pub code: u64,
     pub next: usize,
 }
 
 // What a text is read to.
-#[derive(Drop)]
+#[derive(Clone, Copy)]
 pub enum Read {
     Word(u32),
     BadLine,
