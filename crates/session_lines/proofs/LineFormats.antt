@@ -1,5 +1,5 @@
 -- The formats of lines, by index. Assumes nothing.
-use Prim.Native.Nat.{ℕ, zero, suc, ◌+◌, ◌^◌, ◌≤◌, ◌<◌, zero-le}
+use Prim.Native.Nat.{ℕ, zero, suc, ◌+◌, ◌^◌, ◌≤◌, ◌<◌}
 use mathlib.Core.Bool.{Bool, true, ◌&&◌, and-eq-true_iff}
 use mathlib.Core.List.{List, [], ◌∷◌}
 use mathlib.Core.Path.{◌≡◌, ap, refl, sym, ◌∙◌}
@@ -10,13 +10,6 @@ use lib.ListN.{get_or-eq_default, get_or, length}
 use lib.Seq.{sets}
 use Rattle.text.proofs.Writing.{length_line}
 use Rattle.session_lines.specs.LineFormats.{LineFormat, front_formats, format_of, line_for, word_format}
-
-past : (k i : ℕ) → k ≤ i → (i ≡ k → ⊥) → k + 1 ≤ i
-past k i h n = omega arith
-
--- the nine arms of a match, ruled out
-pub past_nine : (i : ℕ) → (i ≡ 0 → ⊥) → (i ≡ 1 → ⊥) → (i ≡ 2 → ⊥) → (i ≡ 3 → ⊥) → (i ≡ 4 → ⊥) → (i ≡ 5 → ⊥) → (i ≡ 6 → ⊥) → (i ≡ 7 → ⊥) → (i ≡ 8 → ⊥) → 9 ≤ i
-past_nine i n0 n1 n2 n3 n4 n5 n6 n7 n8 = past 8 i (past 7 i (past 6 i (past 5 i (past 4 i (past 3 i (past 2 i (past 1 i (past 0 i zero-le n0) n1) n2) n3) n4) n5) n6) n7) n8
 
 -- behind the nine lines stand words
 pub word_format_lem : (i : ℕ) → 9 ≤ i → format_of i ≡ word_format

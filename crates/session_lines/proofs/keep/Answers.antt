@@ -1,0 +1,21 @@
+-- `session_lines::keep` meets its contract: the numbers of the nine lines and the words, one behind the other, are one list. Assumes nothing.
+use Prim.Native.Nat.{◌^◌, ◌<◌}
+use mathlib.Core.Path.{sym}
+use native.Mathlib.Omega.{arith}
+use lib.Seq.{set-append_left}
+use Rattle.session_lines.proofs.LineFormats.{word_most}
+use Rattle.session_lines.proofs.Lists.{set_behind}
+use Rattle.session_lines.proofs.keep.Goals as goal
+
+pub overflow_cast-words : goal.overflow_cast-words
+overflow_cast-words c = let a = c.args in
+    let small : a.value < 2 ^ 32 = word_most a.i a.value (omega arith) c.requires.value_bound in
+    omega arith
+
+pub returns-then-i-lt9 : goal.returns-then-i-lt9
+returns-then-i-lt9 c = let a = c.args in
+    sym (set-append_left a.front.now a.words.now a.i a.value (omega arith))
+
+pub returns-else-i-lt9 : goal.returns-else-i-lt9
+returns-else-i-lt9 c = let a = c.args in
+    set_behind a.front.now a.words.now 9 a.i a.value (omega arith) (omega arith)
