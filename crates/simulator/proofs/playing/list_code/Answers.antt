@@ -1,6 +1,6 @@
 -- `simulator::playing::list_code` meets its contract. Assumes nothing.
 use borrow.Author.Tests.{lt-ltb, le-ltb}
-use Rattle.std.proofs.Common.{sym, ◌∙◌}
+use Rattle.std.proofs.Common.{length, arith, sym, ◌∙◌}
 use Rattle.simulator.specs.Playing.{play_code}
 use Rattle.simulator.proofs.playing.list_code.Goals as goal
 
@@ -10,7 +10,8 @@ returns-then-codes-calls c = rw (lt-ltb _ _ c.if-codes-calls.true)
 
 pub returns-then-counts-calls : goal.returns-then-counts-calls
 unfolding play_code
-returns-then-counts-calls c = rw (le-ltb _ _ c.if-codes-calls.false, lt-ltb _ _ c.if-counts-calls.true)
+returns-then-counts-calls c =
+    rw (le-ltb _ _ c.if-codes-calls.false, lt-ltb c.args.counts (length c.args.calls.now) (omega arith))
 
 pub returns-then-too_few_words : goal.returns-then-too_few_words
 unfolding play_code
