@@ -1,4 +1,4 @@
--- The decoder's tests find the form of `decodeOf`: a word is that of a form exactly if its bits outside the fields are the
+-- The decoder's tests find the form of `decode_of`: a word is that of a form exactly if its bits outside the fields are the
 -- form's fixed bits, and bits 31:22 leave few forms. Assumes nothing.
 use Prim.Native.Nat.{ℕ, zero, suc, ◌+◌, ◌*◌, ◌^◌, ◌<◌}
 use mathlib.Core.Path.{◌≡◌, refl, ap, sym, ◌∙◌}

@@ -1,5 +1,5 @@
 -- The order in which the decoder tests a word's bits, bits 31:22 first. Not a rule of its own: the private functions
--- of the decoder cite it, and proofs/Decoding proves that it finds the form of `decodeOf`.
+-- of the decoder cite it, and proofs/Decoding proves that it finds the form of `decode_of`.
 use Rattle.std.specs.Prelude.{ℕ, cond, eqb}
 use Rattle.bits.specs.Fields.{bits_at}
 use Rattle.isa.specs.declared.Mode.{Mode}
