@@ -28,7 +28,7 @@ code_small NoHistory = omega arith
 code_small BadRecord = omega arith
 code_small Field = omega arith
 
--- a run does no more words than there are, and leaves a well_formed_lem machine well formed
+-- a run does no more words than there are, and leaves a well-formed machine well formed
 record Kept (most : ℕ) (ran : Returned Simulation) : Type 0 where
   few : ran.answer.count ≤ most
   formed : well_formed ran.after ≡ true
