@@ -25,7 +25,7 @@ use Rattle.assembly.specs.Listing.{defined_front, form_line, listed, listed_numb
 use Rattle.assembly.specs.SourceLines.{line_start, lines_of}
 use Rattle.assembly.specs.declared.Refusal.{Refusal}
 use Rattle.assembly.specs.declared.Refusal.TheVariants.{TooLarge, Undefined}
-use Rattle.assembly.proofs.Answers.{assembled-small}
+use Rattle.assembly.proofs.Answers.{assembled_small}
 use Rattle.assembly.proofs.Listings.{all_defined, front_within, listing_short}
 use Rattle.assembly.proofs.PutLines.{first_of, front_once, front_says, word_says}
 use Rattle.assembly.proofs.Reading.{line_number, lines_done}
@@ -94,7 +94,7 @@ module _ (v : List ℕ) (numbers : GoodNumbers v) where
 
   pub listing_read : defined_front (drop 9 v) ≡ length (drop 9 v) → assembled (listing v) ≡ good v
   listing_read all =
-      assembled-small (listing v) listing_room
+      assembled_small (listing v) listing_room
       ∙ front_read 1 0 0 (take 9 v) (listing_of (drop 9 v)) (drop 9 v) (rw zero-add nine) (take_range v numbers.range)
       (λ number at. words_read number 9 at (drop 9 v) (omega arith) (omega (arith, few)) (drop_range v numbers.range) all)
       ∙ ap good (take-append-drop 9 v)

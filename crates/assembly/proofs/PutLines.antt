@@ -99,4 +99,4 @@ module _ (i v : ℕ) where
 
 pub word_says : (i w : ℕ) (f : Form) → 9 ≤ i → i < 265 → w < 2 ^ 32 → decode_of w ≡ Is f → content_at i (line_of f) ≡ Number w
 word_says i w f h k small e =
-    content_word i (line_of f) (letter_counts (line_of f) (line_letter f)) h k ∙ ap word_content (round_trip.reads-back w f small e)
+    content_word i (line_of f) (letter_counts (line_of f) (line_letter f)) h k ∙ ap word_content (round_trip.reads_back w f small e)

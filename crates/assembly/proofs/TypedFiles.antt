@@ -70,7 +70,7 @@ module _ (i : ℕ) (line : List ℕ) (v : ℕ) where
   word_by : (r : Read) → read_of line ≡ r → word_content r ≡ Number v → 9 ≤ i → i < 265 → Said i line v
   word_by (Word w) q n h k =
       let same : w ≡ v = cc in
-      let only = round_trip.only-lines line w q in
+      let only = round_trip.only_lines line w q in
       word only.0 h k (ap decode_of (sym same) ∙ only.1) only.2 (omega (arith, only.3))
   word_by BadLine q n h k = no_number Unexpected refl n
 
