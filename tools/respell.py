@@ -3,7 +3,7 @@
 
 usage: tools/respell.py        at the top of the repository
 
-A definition in lower camel case and a lemma with dashes get snake case, and a definition whose value is a type gets upper camel
+A definition in lower camel case, a constructor and a lemma with dashes get snake case, and a definition whose value is a type gets upper camel
 case. A name that would meet another of the same file gets '_lem' behind it. The generated names of goals stay: they are those of
 the declarations of proofs/F/ that name a goal. The names that changed go to standard output, old and new.
 """
@@ -54,6 +54,29 @@ def turn(text, table):
     return re.sub(rf"(?<![.\w-]){NAME}", one, text) if table else text
 
 
+def turn_rest(files):
+    """What is still in lower camel case in a file of antt: constructors, and private names of a part of a file."""
+    rest = set()
+    for f in files:
+        if f.endswith(".antt"):
+            with open(f, encoding="utf-8") as it:
+                for line in it:
+                    if not line.lstrip().startswith("--"):
+                        rest |= set(re.findall(r"(?<![\w.'-])[a-z][a-z0-9]*[A-Z]\w*", line))
+    table = {name: snake(name) for name in rest}
+    for f in files:
+        with open(f, encoding="utf-8") as it:
+            text = it.read()
+        has = set(re.findall(NAME, text))
+        # A lemma of the file that would then share a name gets '_lem'.
+        taken = {table[name] for name in has & set(table) if table[name] in has}
+        out = turn(turn(text, {name: name + "_lem" for name in taken}), table)
+        if out != text:
+            with open(f, "w", encoding="utf-8") as it:
+                it.write(out)
+            yield f
+
+
 def main():
     every = sorted(
         glob.glob("crates/*/specs/**/*.antt", recursive=True)
@@ -98,6 +121,8 @@ def main():
         out = turn(texts[f], table)
         if out != texts[f]:
             open(f, "w", encoding="utf-8").write(out)
+    for f in turn_rest(list(texts)):
+        print(f"# {f}: constructors and private names")
     for name in sorted(shared):
         print(f"{name}\t{shared[name]}")
     for f in sorted(local):

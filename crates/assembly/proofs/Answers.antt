@@ -8,7 +8,7 @@ use lib.ListN.{length, take, drop}
 use lib.Seq.{drop_at, length-take-le, sets, take-append-add, take_at}
 use Rattle.session_lines.specs.Laws.{BadIsFirst}
 use Rattle.session_lines.specs.LineFormats.{lines_from}
-use Rattle.session_lines.specs.Parsing.{Parsed, good as goodSession, bad, parsed}
+use Rattle.session_lines.specs.Parsing.{Parsed, good as good_session, bad, parsed}
 use Rattle.session_lines.proofs.FirstWrongLines.{bad_is_first}
 use Rattle.assembly.specs.Answers.{Outcome, LendableText, good, refused, answered, answer_for}
 use Rattle.assembly.specs.Assembling.{assembled, numbers_from}
@@ -64,13 +64,13 @@ module _ (s : List ℕ) where
     listed_small p e = rw (le-leb (length s) 1048576 h, e)
 
     -- the nine numbers and the words, as the parser leaves them
-    pub listed_good : (front words : List ℕ) (n : ℕ) → length front ≡ 9 → 9 ≤ n → goodSession (take n (front ++ words)) ≡ parsed s
+    pub listed_good : (front words : List ℕ) (n : ℕ) → length front ≡ 9 → 9 ≤ n → good_session (take n (front ++ words)) ≡ parsed s
         → listed s ≡ listed_numbers s front (take (n - 9) words)
     listed_good front words n nine enough e =
         let v : List ℕ = front ++ take (n - 9) words in
         let count : n ≡ length front + (n - 9) = omega arith in
         let cut : take n (front ++ words) ≡ v = ap (λ (k : ℕ). take k (front ++ words)) count ∙ take-append-add front words (n - 9) in
-        listed_small (goodSession v) (sym e ∙ ap goodSession cut)
+        listed_small (good_session v) (sym e ∙ ap good_session cut)
         ∙ ap (λ (l : List ℕ). listed_numbers s l (drop 9 v)) (take_at front (take (n - 9) words) 9 nine)
         ∙ ap (listed_numbers s front) (drop_at front (take (n - 9) words) 9 nine)
 

@@ -12,7 +12,7 @@ use lib.Seq.{get_or-drop, get_or-take, length-take-le}
 use Rattle.isa.specs.Decoding.{decode_of}
 use Rattle.session_lines.specs.Laws.{OnlyGoodIsRead}
 use Rattle.session_lines.specs.LineFormats.{GoodNumbers, InRange, format_of, line_for, lines_from}
-use Rattle.session_lines.specs.Parsing.{Parsed, good as goodSession, bad, parsed}
+use Rattle.session_lines.specs.Parsing.{Parsed, good as good_session, bad, parsed}
 use Rattle.session_lines.proofs.Lengths.{front_long, session_room}
 use Rattle.session_lines.proofs.LineFormats.{word_most}
 use Rattle.session_lines.proofs.OnlyGoodSessions.{only_good_is_read}
@@ -100,7 +100,7 @@ module _ (v : List ℕ) (numbers : GoodNumbers v) where
       ∙ ap good (take-append-drop 9 v)
 
 -- what was read is a good session, and short
-module _ (s v : List ℕ) (e : parsed s ≡ goodSession v) where
+module _ (s v : List ℕ) (e : parsed s ≡ good_session v) where
   pub good_numbers : GoodNumbers v
   unfolding OnlyGoodIsRead
   good_numbers = (only_good_is_read s v e).0
@@ -123,7 +123,7 @@ not_refused : (why : Refusal) (t : List ℕ) → refused why ≡ good t → ⊥
 not_refused why t e = let z : ◌≡◌ {A = ℕ} 0 1 = cc in absurd (omega arith)
 
 module _ (s t : List ℕ) where
-  by_defined : (v : List ℕ) → parsed s ≡ goodSession v → (b : Bool) → ltb (defined_front (drop 9 v)) (length (drop 9 v)) ≡ b
+  by_defined : (v : List ℕ) → parsed s ≡ good_session v → (b : Bool) → ltb (defined_front (drop 9 v)) (length (drop 9 v)) ≡ b
       → cond b (refused (Undefined (10 + defined_front (drop 9 v)) (line_start s (10 + defined_front (drop 9 v))))) (good (listing v)) ≡ good t
       → session_of (assembled t) ≡ good s
   by_defined v p true q e = absurd (not_refused _ t e)
@@ -134,7 +134,7 @@ module _ (s t : List ℕ) where
 
   by_session : (p : Parsed) → parsed s ≡ p → listed_session s p ≡ good t → session_of (assembled t) ≡ good s
   unfolding listed_numbers
-  by_session (goodSession v) q e = by_defined v q (ltb (defined_front (drop 9 v)) (length (drop 9 v))) refl e
+  by_session (good_session v) q e = by_defined v q (ltb (defined_front (drop 9 v)) (length (drop 9 v))) refl e
   by_session (bad number) q e = absurd (not_refused _ t e)
 
   by_size : (b : Bool) → leb (length s) 1048576 ≡ b → cond b (listed_session s (parsed s)) (refused TooLarge) ≡ good t → session_of (assembled t) ≡ good s

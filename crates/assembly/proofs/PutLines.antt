@@ -16,7 +16,7 @@ use Rattle.text.specs.declared.Line.TheVariants.{Is as IsLine}
 use Rattle.text.proofs.OneLine.{is_empty, line_once as text-once, no_feed, one_line}
 use Rattle.text.proofs.Round.{line_back}
 use Rattle.session_lines.specs.LineFormats.{LineFormat, format_of, front_formats, line_for, word_format}
-use Rattle.session_lines.specs.Parsing.{line_of as lineAs}
+use Rattle.session_lines.specs.Parsing.{line_of as line_as}
 use Rattle.session_lines.proofs.LineFormats.{length_for, wide}
 use Rattle.listing.specs.Lines.{line_of}
 use Rattle.listing.proofs.OneLine.{line_letter}
@@ -91,10 +91,10 @@ module _ (i v : ℕ) where
       let key = (format_of i).key in
       let digits = (format_of i).digits in
       let line = line_for (format_of i) v in
-      let back : lineAs (format_of i) (line ++ []) 0 ≡ IsLine v (0 + (length key + digits + 1))
+      let back : line_as (format_of i) (line ++ []) 0 ≡ IsLine v (0 + (length key + digits + 1))
       = line_back key digits (format_of i).most v [] [] (omega (arith, wide i)) small in
       let size : 0 + (length key + digits + 1) ≡ length line = zero-add (length key + digits + 1) ∙ sym (length_for (format_of i) v) in
-      let read : lineAs (format_of i) line 0 ≡ IsLine v (length line) = ap (λ (l : List ℕ). lineAs (format_of i) l 0) (sym (append-nil line)) ∙ back ∙ ap (IsLine v) size in
+      let read : line_as (format_of i) line 0 ≡ IsLine v (length line) = ap (λ (l : List ℕ). line_as (format_of i) l 0) (sym (append-nil line)) ∙ back ∙ ap (IsLine v) size in
       content_front i line front_counts h ∙ ap (front_content (length line)) read ∙ rw (eq-eqb (length line) (length line) refl)
 
 pub word_says : (i w : ℕ) (f : Form) → 9 ≤ i → i < 265 → w < 2 ^ 32 → decode_of w ≡ Is f → content_at i (line_of f) ≡ Number w

@@ -17,7 +17,7 @@ use Rattle.text.proofs.ExactLines.{line_exact}
 use Rattle.text.proofs.Framing.{line_says}
 use Rattle.session_lines.specs.Laws.{GoodIsRead}
 use Rattle.session_lines.specs.LineFormats.{InRange, format_of, line_for, lines_from}
-use Rattle.session_lines.specs.Parsing.{line_of as lineAs, parsed, good as goodSession}
+use Rattle.session_lines.specs.Parsing.{line_of as line_as, parsed, good as good_session}
 use Rattle.session_lines.proofs.GoodSessions.{good_is_read}
 use Rattle.session_lines.proofs.LineFormats.{word_format_lem}
 use Rattle.listing.specs.Lines.{line_of}
@@ -48,7 +48,7 @@ module _ (i : ℕ) (line : List ℕ) (v : ℕ) where
   no_number : {A : Type 0} (c : Content) → c ≡ Unexpected → c ≡ Number v → A
   no_number c e q = let z : ◌≡◌ {A = ℕ} 0 1 = cc in absurd (omega arith)
 
-  front_line : (x next : ℕ) → lineAs (format_of i) line 0 ≡ IsLine x next → (t : Bool) → eqb next (length line) ≡ t
+  front_line : (x next : ℕ) → line_as (format_of i) line 0 ≡ IsLine x next → (t : Bool) → eqb next (length line) ≡ t
       → cond t (Number x) Unexpected ≡ Number v → i < 9 → Said i line v
   front_line x next q true e n h =
       let same : x ≡ v = cc in
@@ -63,7 +63,7 @@ module _ (i : ℕ) (line : List ℕ) (v : ℕ) where
       front h (exact ∙ ap (line_for (format_of i)) same) (omega arith)
   front_line x next q false e n h = let z : ◌≡◌ {A = ℕ} 0 1 = cc in absurd (omega arith)
 
-  front_by : (l : Line) → lineAs (format_of i) line 0 ≡ l → front_content (length line) l ≡ Number v → i < 9 → Said i line v
+  front_by : (l : Line) → line_as (format_of i) line 0 ≡ l → front_content (length line) l ≡ Number v → i < 9 → Said i line v
   front_by (IsLine x next) q n h = front_line x next q (eqb next (length line)) refl n h
   front_by WrongLine q n h = no_number Unexpected refl n
 
@@ -81,7 +81,7 @@ module _ (i : ℕ) (line : List ℕ) (v : ℕ) where
   nine_by : passed_over line ≡ false → content_at i line ≡ Number v → (t : Bool) → ltb i 9 ≡ t → Said i line v
   nine_by on e true q =
       let h : i < 9 = ltb-true i 9 q in
-      front_by (lineAs (format_of i) line 0) refl (sym (content_front i line on h) ∙ e) h
+      front_by (line_as (format_of i) line 0) refl (sym (content_front i line on h) ∙ e) h
   nine_by on e false q = extra_by on e (ltb-false i 9 q) (ltb i 265) refl
 
   said : passed_over line ≡ false → content_at i line ≡ Number v → Said i line v
@@ -109,7 +109,7 @@ module _ (i : ℕ) (line : List ℕ) (v : ℕ) where
       absurd (omega arith)
 
   line_counts : passed_over line ≡ false → content_at i line ≡ Passed → (t : Bool) → ltb i 9 ≡ t → ⊥
-  line_counts on e true q = front_counts (lineAs (format_of i) line 0) (sym (content_front i line on (ltb-true i 9 q)) ∙ e)
+  line_counts on e true q = front_counts (line_as (format_of i) line 0) (sym (content_front i line on (ltb-true i 9 q)) ∙ e)
   line_counts on e false q = extra_counts on e (ltb-false i 9 q) (ltb i 265) refl
 
 -- the numbers v were read from lines, where i numbers had been read before
@@ -235,7 +235,7 @@ listed_by : (t s : List ℕ) (o : Outcome) → assembled t ≡ o → session_of 
 unfolding AssembledIsGood DefinedIsListed GoodIsRead
 listed_by t s (good v) q e =
     let lines : lines_from 0 v ≡ s = cc in
-    let read : parsed s ≡ goodSession v = ap parsed (sym lines) ∙ good_is_read v (assembled_is_good t v q) in
+    let read : parsed s ≡ good_session v = ap parsed (sym lines) ∙ good_is_read v (assembled_is_good t v q) in
     let all = typed t v q in
     defined_is_listed s v read all.defined ∙ ap good (sym all.text)
 listed_by t s (refused why) q e = let z : ◌≡◌ {A = ℕ} 0 1 = cc in absurd (omega arith)

@@ -2,7 +2,7 @@
 -- (assembled_is_good, defined_is_listed, listing_is_assembled, assembled_is_listed).
 use Rattle.std.specs.Prelude.{ℕ, cond, List, [], ◌∷◌, ◌++◌, ◌≡◌, length, take, drop}
 use Rattle.session_lines.specs.LineFormats.{GoodNumbers, lines_from}
-use Rattle.session_lines.specs.Parsing.{parsed, good as goodSession}
+use Rattle.session_lines.specs.Parsing.{parsed, good as good_session}
 use Rattle.assembly.specs.Answers.{good}
 use Rattle.assembly.specs.Assembling.{assembled, session_of}
 use Rattle.assembly.specs.Listing.{defined_front, listed, listing_of}
@@ -15,7 +15,7 @@ AssembledIsGood = (t v : List ℕ) → assembled t ≡ good v → GoodNumbers v
 -- A good session whose words are all defined is listed.
 unfoldable pub DefinedIsListed : Type 0
 DefinedIsListed =
-    (s v : List ℕ) → parsed s ≡ goodSession v → defined_front (drop 9 v) ≡ length (drop 9 v)
+    (s v : List ℕ) → parsed s ≡ good_session v → defined_front (drop 9 v) ≡ length (drop 9 v)
     → listed s ≡ good (lines_from 0 (take 9 v) ++ listing_of (drop 9 v))
 
 -- Its listing is assembled to the session, byte for byte.

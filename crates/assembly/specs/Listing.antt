@@ -4,7 +4,7 @@ use Rattle.isa.specs.Decoding.{decode_of}
 use Rattle.isa.specs.declared.Decoded.{Decoded}
 use Rattle.isa.specs.declared.Decoded.TheVariants.{Is, Undefined as UndefinedWord}
 use Rattle.session_lines.specs.LineFormats.{lines_from}
-use Rattle.session_lines.specs.Parsing.{Parsed, good as goodSession, bad, parsed}
+use Rattle.session_lines.specs.Parsing.{Parsed, good as good_session, bad, parsed}
 use Rattle.listing.specs.Lines.{line_of}
 use Rattle.assembly.specs.Answers.{Outcome, good, refused}
 use Rattle.assembly.specs.SourceLines.{line_start}
@@ -34,7 +34,7 @@ listed_numbers s front words =
 
 -- by what the session says; where a line is bad, so many numbers stand before it
 abbrev pub listed_session : List ℕ → Parsed → Outcome
-listed_session s (goodSession v) = listed_numbers s (take 9 v) (drop 9 v)
+listed_session s (good_session v) = listed_numbers s (take 9 v) (drop 9 v)
 listed_session s (bad number) = refused (Wrong number (number - 1) (line_start s number))
 
 unfoldable pub listed : List ℕ → Outcome

@@ -90,17 +90,17 @@ decode_d9 w h top =
 -- a form by its place
 
 module _ (f : Form) (s : Simulation) where
-  abbrev codeFor : Code
-  codeFor = access_code s.state.settings.base (length s.state.tags) (access_of f s.state)
+  abbrev code_for : Code
+  code_for = access_code s.state.settings.base (length s.state.tags) (access_of f s.state)
 
-  done_first : (first i : ℕ) → placed_by codeFor first ≡ First i
+  done_first : (first i : ℕ) → placed_by code_for first ≡ First i
       → (decoded_taken (Is f) s ≡ done (effect_taken (form_effect f s.state) s)) × (first ≡ i)
   unfolding decoded_taken form_taken
-  done_first first i h = let p = placed_first codeFor first i h in (rw p.0, p.1)
+  done_first first i h = let p = placed_first code_for first i h in (rw p.0, p.1)
 
-  pub refused_nowhere : (first : ℕ) (code : Code) → placed_by codeFor first ≡ Nowhere code → decoded_taken (Is f) s ≡ refused code
+  pub refused_nowhere : (first : ℕ) (code : Code) → placed_by code_for first ≡ Nowhere code → decoded_taken (Is f) s ≡ refused code
   unfolding decoded_taken form_taken
-  refused_nowhere first code h = let p = placed_nowhere codeFor code first h in rw (p.0, p.1)
+  refused_nowhere first code h = let p = placed_nowhere code_for code first h in rw (p.0, p.1)
 
 -- a word that is refused changes nothing
 module _ {settings : Settings} {x : List ℕ} {status : ℕ} {bytes tags words : List ℕ} {cursor : Cursor} where
@@ -144,13 +144,13 @@ module _ (s : Simulation) where
 
   -- the place of LDG, and of a store
 
-  abbrev loadAt : ℕ → ℕ → Placed
-  loadAt n amount = load_place base (length s.state.tags) n (x_or_sp x n) amount
+  abbrev load_at : ℕ → ℕ → Placed
+  load_at n amount = load_place base (length s.state.tags) n (x_or_sp x n) amount
 
-  abbrev storeAt : Mode → ℕ → ℕ → ℕ → Placed
-  storeAt mode n amount g = store_place base (length s.state.tags) n (x_or_sp x n) (address_of mode (x_or_sp x n) amount) g
+  abbrev store_at : Mode → ℕ → ℕ → ℕ → Placed
+  store_at mode n amount g = store_place base (length s.state.tags) n (x_or_sp x n) (address_of mode (x_or_sp x n) amount) g
 
-  pub ldg_first : (t n amount i : ℕ) → loadAt n amount ≡ First i
+  pub ldg_first : (t n amount i : ℕ) → load_at n amount ≡ First i
       → decoded_taken (Is (Ldg t n amount)) s
       ≡ done (effect_taken (register_effect (or_none t) (with_tag (x_or_zero x t) (loaded_tag s.state.settings s.state.tags i)) s.state.registers.status) s)
   ldg_first t n amount i h =
@@ -159,27 +159,27 @@ module _ (s : Simulation) where
 
   store_first : (f : Form) (mode : Mode) (n amount g tag i : ℕ) (change : Change)
       → form_effect f s.state ≡ store_effect mode n amount g tag change s.state
-      → placed_by (codeFor f s) (index_of base (address_of mode (x_or_sp x n) amount)) ≡ First i
+      → placed_by (code_for f s) (index_of base (address_of mode (x_or_sp x n) amount)) ≡ First i
       → decoded_taken (Is f) s ≡ store_taken (writeback_to mode n) (onward (x_or_sp x n) amount) i g tag change s
   store_first f mode n amount g tag i change e h =
       let p = done_first f s (index_of base (address_of mode (x_or_sp x n) amount)) i h in
       p.0 ∙ ap (λ (effect : Effect). done (effect_taken effect s)) e
       ∙ ap (λ (first : ℕ). store_taken (writeback_to mode n) (onward (x_or_sp x n) amount) first g tag change s) p.1
 
-  pub stgp_first : (mode : Mode) (t t2 n amount i : ℕ) → storeAt mode n amount 1 ≡ First i
+  pub stgp_first : (mode : Mode) (t t2 n amount i : ℕ) → store_at mode n amount 1 ≡ First i
       → decoded_taken (Is (Stgp mode t t2 n amount)) s
       ≡ store_taken (writeback_to mode n) (onward (x_or_sp x n) amount) i 1 (tag_of (address_of mode (x_or_sp x n) amount)) (pair (x_or_zero x t) (x_or_zero x t2)) s
   stgp_first mode t t2 n amount i h = store_first (Stgp mode t t2 n amount) mode n amount 1 _ i _ refl h
 
   module _ (g : ℕ) (zeroes : Bool) (some : 1 ≤ g) (few : g ≤ 2) (mode : Mode) (t n amount : ℕ) where
-    pub tag_store_first : (i : ℕ) → storeAt mode n amount g ≡ First i
+    pub tag_store_first : (i : ℕ) → store_at mode n amount g ≡ First i
         → decoded_taken (Is (TagStore (tag_store_op g zeroes) mode t n amount)) s
         ≡ store_taken (writeback_to mode n) (onward (x_or_sp x n) amount) i g (tag_of (x_or_sp x t)) (zeroed_if zeroes) s
     tag_store_first i h =
         store_first (TagStore (tag_store_op g zeroes) mode t n amount) mode n amount g (tag_of (x_or_sp x t)) i (zeroed_if zeroes)
         (rw (op_granules g zeroes some few, op_zeroing g zeroes)) (rw (op_granules g zeroes some few) h)
 
-    pub tag_store_nowhere : (code : Code) → storeAt mode n amount g ≡ Nowhere code
+    pub tag_store_nowhere : (code : Code) → store_at mode n amount g ≡ Nowhere code
         → decoded_taken (Is (TagStore (tag_store_op g zeroes) mode t n amount)) s ≡ refused code
     tag_store_nowhere code h =
         refused_nowhere (TagStore (tag_store_op g zeroes) mode t n amount) s (index_of base (address_of mode (x_or_sp x n) amount)) code

@@ -5,9 +5,9 @@ use Rattle.machine.specs.declared.Code.TheVariants.{Done}
 use Rattle.machine.specs.Codes.{is_done}
 
 pub data Call : Type 0 where
-  stepCall : ℕ → Call
-  runCall : List ℕ → Call
-  backCall : Call
+  step_call : ℕ → Call
+  run_call : List ℕ → Call
+  back_call : Call
 
 -- what a step or a step back comes to: a refusal, which changes nothing, or the machine after it
 pub data Out (X : Type 0) : Type 0 where
@@ -51,9 +51,9 @@ pub record Callable (X : Type 0) : Type 0 where
   pub back : X → Out X
 
 unfoldable pub call : {X : Type 0} → Callable X → X → Call → Returned X
-call m before (stepCall w) = answered before (m.step before w)
-call m before (runCall ws) = m.run before ws
-call m before backCall = answered before (m.back before)
+call m before (step_call w) = answered before (m.step before w)
+call m before (run_call ws) = m.run before ws
+call m before back_call = answered before (m.back before)
 
 -- the answers to a list of calls, and the machine after it
 pub record Ended (X : Type 0) : Type 0 where

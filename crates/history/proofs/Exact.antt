@@ -12,7 +12,7 @@ use Rattle.machine.specs.declared.Status.{Status}
 use Rattle.machine.specs.State.{fresh_status, with_nzcv, with_rgsr, with_seed}
 use Rattle.history.specs.Records.{Entry, words_of, entry_in}
 use Rattle.history.specs.BadRecords.{not_zero, out_of_range, value_not_zero, tags_not_zero, data_not_zero, data_of_none, beyond, gap_not_zero, malformed}
-use Rattle.history.specs.WellFormedRecords.{OldRegister, register, noRegister, OldGranules, noGranules, one, oneSaved, two, twoSaved, Held, RegisterFits, GranulesFit, WellFormed, register_number, register_value, places_of, with_granules, entry_held, record_words, EightWords, ExactRecords}
+use Rattle.history.specs.WellFormedRecords.{OldRegister, register, no_register, OldGranules, no_granules, one, one_saved, two, two_saved, Held, RegisterFits, GranulesFit, WellFormed, register_number, register_value, places_of, with_granules, entry_held, record_words, EightWords, ExactRecords}
 use Rattle.history.proofs.Packing.{Fits, entry_back, gaps_zero}
 use Rattle.history.proofs.Rules.{Rules, rules, gaps}
 
@@ -20,25 +20,25 @@ use Rattle.history.proofs.Rules.{Rules, rules, gaps}
 
 register_passes : (r : OldRegister) → RegisterFits r → (register_number r ≤ 32) × ((eqb (register_number r) 32 && not_zero (register_value r)) ≡ false)
 register_passes (register n value) f = (omega arith, rw (ne_eqb n 32 (omega arith)))
-register_passes noRegister f = (omega arith, refl)
+register_passes no_register f = (omega arith, refl)
 
 module _ (g n value : ℕ) (status : Status) where
   places_fit : (o : OldGranules) → GranulesFit g o → n ≤ 32 → status.nzcv ≤ 15 → status.rgsr ≤ 15 → status.seed < 2 ^ 16
       → Fits (with_granules n value status o)
-  places_fit noGranules f hn hz hr hs = omega arith
+  places_fit no_granules f hn hz hr hs = omega arith
   places_fit (one first tag) f hn hz hr hs = omega arith
-  places_fit (oneSaved first tag a b) f hn hz hr hs = omega arith
+  places_fit (one_saved first tag a b) f hn hz hr hs = omega arith
   places_fit (two first tag second) f hn hz hr hs = omega arith
-  places_fit (twoSaved first tag second a b c d) f hn hz hr hs = omega arith
+  places_fit (two_saved first tag second a b c d) f hn hz hr hs = omega arith
 
   places_pass : (o : OldGranules) → GranulesFit g o → ltb 32 n ≡ false → (eqb n 32 && not_zero value) ≡ false
       → let e = with_granules n value status o in
       (out_of_range e || (value_not_zero e || (tags_not_zero e || (data_not_zero e || (data_of_none e || beyond g e))))) ≡ false
-  places_pass noGranules f hn hv = rw (hn, hv) (le-ltb g 0 (omega arith))
+  places_pass no_granules f hn hv = rw (hn, hv) (le-ltb g 0 (omega arith))
   places_pass (one first tag) f hn hv = rw (hn, hv) (le-ltb g (first + 1) f.0)
-  places_pass (oneSaved first tag a b) f hn hv = rw (hn, hv) (le-ltb g (first + 1) f.0)
+  places_pass (one_saved first tag a b) f hn hv = rw (hn, hv) (le-ltb g (first + 1) f.0)
   places_pass (two first tag second) f hn hv = rw (hn, hv) (le-ltb g (first + 2) f.0)
-  places_pass (twoSaved first tag second a b c d) f hn hv = rw (hn, hv) (le-ltb g (first + 2) f.0)
+  places_pass (two_saved first tag second a b c d) f hn hv = rw (hn, hv) (le-ltb g (first + 2) f.0)
 
 accepts : (g : ℕ) (h : Held) → WellFormed g h → malformed g (record_words h) ≡ false
 unfolding record_words malformed
@@ -102,7 +102,7 @@ old_register : (n value : ℕ) → n ≤ 32 → value < 2 ^ 64 → (n ≡ 32 →
 old_register n value hn hv z = go (eqb n 32) refl
   where
     go : (t : Bool) → eqb n 32 ≡ t → (r : OldRegister) × RegisterFits r × (register_number r ≡ n) × (register_value r ≡ value)
-    go true e = (noRegister, tt, sym (eqb-true n 32 e), sym (z (eqb-true n 32 e)))
+    go true e = (no_register, tt, sym (eqb-true n 32 e), sym (z (eqb-true n 32 e)))
     go false e = (register n value, (omega (arith, eqb-false n 32 e), hv), refl, refl)
 
 abbrev status_of : Entry → Status
@@ -116,12 +116,12 @@ old_granules g e k f ha hb hc hd = go e.granules e.saved refl refl
         → (o : OldGranules) × GranulesFit g o
         × (with_granules e.register e.value (status_of e) o
         ≡ places_of e.register e.value (status_of e) e.granules e.saved e.tag e.second e.first e.a e.b e.c e.d)
-    go zero zero p q = let z = k.none p in let u = k.unsaved q in (noGranules, tt, cc)
+    go zero zero p q = let z = k.none p in let u = k.unsaved q in (no_granules, tt, cc)
     go zero (suc s) p q = absurd (k.saved (omega arith) p)
     go (suc zero) zero p q = let z = k.one p in let u = k.unsaved q in (one e.first e.tag, omega arith, cc)
-    go (suc zero) (suc zero) p q = let z = k.one p in (oneSaved e.first e.tag e.a e.b, omega arith, cc)
+    go (suc zero) (suc zero) p q = let z = k.one p in (one_saved e.first e.tag e.a e.b, omega arith, cc)
     go (suc (suc zero)) zero p q = let u = k.unsaved q in (two e.first e.tag e.second, omega arith, cc)
-    go (suc (suc zero)) (suc zero) p q = (twoSaved e.first e.tag e.second e.a e.b e.c e.d, omega arith, cc)
+    go (suc (suc zero)) (suc zero) p q = (two_saved e.first e.tag e.second e.a e.b e.c e.d, omega arith, cc)
     go (suc zero) (suc (suc s)) p q = absurd (omega arith)
     go (suc (suc zero)) (suc (suc s)) p q = absurd (omega arith)
     go (suc (suc (suc n))) s p q = absurd (omega arith)

@@ -14,7 +14,7 @@ use Rattle.memory.specs.Locations.{index_of}
 use Rattle.memory.specs.Stores.{saved_bytes, saved_tags}
 use Rattle.machine.specs.State.{State, state_of, with_nzcv, with_rgsr, with_seed}
 use Rattle.machine.specs.Registers.{x_or_sp, or_none, written}
-use Rattle.instructions.specs.Accesses.{Access, noAccess, access, access_of, writeback_to}
+use Rattle.instructions.specs.Accesses.{Access, no_access, access, access_of, writeback_to}
 use Rattle.history.specs.Records.{Entry, words_of}
 
 -- the register: the destination or writeback target, 32 if there is neither or it is the zero register
@@ -34,12 +34,12 @@ target (Stgp mode t t2 n amount) = writeback_to mode n
 
 -- LDG records no granules; stores record theirs
 abbrev pub granules_recorded : Access → ℕ
-granules_recorded noAccess = 0
+granules_recorded no_access = 0
 granules_recorded (access n rn address multiple granules stores) = cond stores granules 0
 
 -- the first one's index
 abbrev pub first_recorded : ℕ → Access → ℕ
-first_recorded base noAccess = 0
+first_recorded base no_access = 0
 first_recorded base (access n rn address multiple granules stores) = cond stores (index_of base address) 0
 
 -- with data if they write data

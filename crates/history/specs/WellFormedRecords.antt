@@ -8,15 +8,15 @@ use Rattle.history.specs.BadRecords.{malformed}
 -- a register (0 to 30, 31 SP) with its old value, or none
 pub data OldRegister : Type 0 where
   register : (n value : ℕ) → OldRegister
-  noRegister : OldRegister
+  no_register : OldRegister
 
 -- no granules, one or two, with the first one's index and their old tag bytes, and with their old data or without
 pub data OldGranules : Type 0 where
-  noGranules : OldGranules
+  no_granules : OldGranules
   one : (first tag : ℕ) → OldGranules
-  oneSaved : (first tag a b : ℕ) → OldGranules
+  one_saved : (first tag a b : ℕ) → OldGranules
   two : (first tag second : ℕ) → OldGranules
-  twoSaved : (first tag second a b c d : ℕ) → OldGranules
+  two_saved : (first tag second a b c d : ℕ) → OldGranules
 
 -- what a record holds
 pub record Held : Type 0 where
@@ -28,14 +28,14 @@ pub record Held : Type 0 where
 
 abbrev pub RegisterFits : OldRegister → Type 0
 RegisterFits (register n value) = (n ≤ 31) × (value < 2 ^ 64)
-RegisterFits noRegister = Unit
+RegisterFits no_register = Unit
 
 abbrev pub GranulesFit : ℕ → OldGranules → Type 0
-GranulesFit g noGranules = Unit
+GranulesFit g no_granules = Unit
 GranulesFit g (one first tag) = (first + 1 ≤ g) × (tag < 2 ^ 8)
-GranulesFit g (oneSaved first tag a b) = (first + 1 ≤ g) × (tag < 2 ^ 8) × (a < 2 ^ 64) × (b < 2 ^ 64)
+GranulesFit g (one_saved first tag a b) = (first + 1 ≤ g) × (tag < 2 ^ 8) × (a < 2 ^ 64) × (b < 2 ^ 64)
 GranulesFit g (two first tag second) = (first + 2 ≤ g) × (tag < 2 ^ 8) × (second < 2 ^ 8)
-GranulesFit g (twoSaved first tag second a b c d) =
+GranulesFit g (two_saved first tag second a b c d) =
     (first + 2 ≤ g) × (tag < 2 ^ 8) × (second < 2 ^ 8) × (a < 2 ^ 64) × (b < 2 ^ 64) × (c < 2 ^ 64) × (d < 2 ^ 64)
 
 pub record WellFormed (g : ℕ) (h : Held) : Type 0 where
@@ -50,11 +50,11 @@ pub record WellFormed (g : ℕ) (h : Held) : Type 0 where
 
 abbrev pub register_number : OldRegister → ℕ
 register_number (register n value) = n
-register_number noRegister = 32
+register_number no_register = 32
 
 abbrev pub register_value : OldRegister → ℕ
 register_value (register n value) = value
-register_value noRegister = 0
+register_value no_register = 0
 
 abbrev pub places_of : ℕ → ℕ → Status → ℕ → ℕ → ℕ → ℕ → ℕ → ℕ → ℕ → ℕ → ℕ → Entry
 places_of n value status granules saved tag second first a b c d =
@@ -76,11 +76,11 @@ places_of n value status granules saved tag second first a b c d =
     }
 
 abbrev pub with_granules : ℕ → ℕ → Status → OldGranules → Entry
-with_granules n value status noGranules = places_of n value status 0 0 0 0 0 0 0 0 0
+with_granules n value status no_granules = places_of n value status 0 0 0 0 0 0 0 0 0
 with_granules n value status (one first tag) = places_of n value status 1 0 tag 0 first 0 0 0 0
-with_granules n value status (oneSaved first tag a b) = places_of n value status 1 1 tag 0 first a b 0 0
+with_granules n value status (one_saved first tag a b) = places_of n value status 1 1 tag 0 first a b 0 0
 with_granules n value status (two first tag second) = places_of n value status 2 0 tag second first 0 0 0 0
-with_granules n value status (twoSaved first tag second a b c d) = places_of n value status 2 1 tag second first a b c d
+with_granules n value status (two_saved first tag second a b c d) = places_of n value status 2 1 tag second first a b c d
 
 abbrev pub entry_held : Held → Entry
 entry_held h = with_granules (register_number h.register) (register_value h.register) h.status h.granules

@@ -45,12 +45,12 @@ writeback_to Offset n = 32
 -- what a form accesses: the base register n and what it holds, the address, the number of which the address must be a multiple, how many
 -- granules it names from there on, and whether it stores
 pub data Access : Type 0 where
-  noAccess : Access
+  no_access : Access
   access : (n rn address multiple granules : ℕ) (stores : Bool) → Access
 
 abbrev pub access_of : Form → State → Access
-access_of (AddSub op d n amount offset) s = noAccess
-access_of (TwoSource op d n m) s = noAccess
+access_of (AddSub op d n amount offset) s = no_access
+access_of (TwoSource op d n m) s = no_access
 access_of (Ldg t n amount) s = let rn = x_or_sp s.registers.x n in access n rn (rounded_down (onward rn amount)) 1 1 false
 access_of (TagStore op mode t n amount) s =
     let rn = x_or_sp s.registers.x n in access n rn (address_of mode rn amount) 16 (granules_named op) true
@@ -58,17 +58,17 @@ access_of (Stgp mode t t2 n amount) s = let rn = x_or_sp s.registers.x n in acce
 
 -- SPALIGN: LDG or a store has Rn = SP and SP isn't a multiple of 16
 abbrev pub sp_misaligned : Access → Bool
-sp_misaligned noAccess = false
+sp_misaligned no_access = false
 sp_misaligned (access n rn address multiple granules stores) = n == 31 && not (rn % 16 == 0)
 
 -- ALIGN: a store's address isn't a multiple of 16
 abbrev pub misaligned : Access → Bool
-misaligned noAccess = false
+misaligned no_access = false
 misaligned (access n rn address multiple granules stores) = not (address % multiple == 0)
 
 -- OUTSIDE: a named granule lies outside base to base + 16 × g, tag access on or off
 abbrev pub outside : ℕ → ℕ → Access → Bool
-outside base g noAccess = false
+outside base g no_access = false
 outside base g (access n rn address multiple granules stores) = not (all_inside base g granules address)
 
 -- the refusals of an access, in the order of their numbers

@@ -11,7 +11,7 @@ use Rattle.machine.specs.declared.Code.{Code}
 use Rattle.machine.specs.declared.Code.TheVariants.{Setup, Undefined}
 use Rattle.machine.specs.State.{State}
 use Rattle.machine.specs.Codes.{Check, check, lowest, is_done}
-use Rattle.instructions.specs.Accesses.{Access, noAccess, access_of, access_checks}
+use Rattle.instructions.specs.Accesses.{Access, no_access, access_of, access_checks}
 use Rattle.instructions.specs.RegisterWords.{add_sub, subp, subps, gmi, irg}
 use Rattle.instructions.specs.MemoryWords.{ldg, tag_store, stgp}
 
@@ -41,7 +41,7 @@ is_undefined NoForm = true
 is_undefined (Is f) = false
 
 abbrev pub access_in : Decoded → State → Access
-access_in NoForm s = noAccess
+access_in NoForm s = no_access
 access_in (Is f) s = access_of f s
 
 -- the refusals of a word in the order of their numbers, on a setup that keeps its rules or does not

@@ -121,16 +121,16 @@ module _ (w : ℕ) (h : w < 2 ^ 32) where
       memory_tags_row (tag_store_bits op) (tag_store_top op) (mode_bits mode) (tag_store_parts op).0 (mode_small mode)
 
   -- LDG is a tag store of mode 0
-  ldg_row : eqb (word_of (ldg_at w)) w
+  ldg_row_lem : eqb (word_of (ldg_at w)) w
       ≡ (eqb (bits_at w 22 10) (tag_store_top Stzg) && (eqb (bits_at w 21 1) 1 && eqb (bits_at w 10 2) 0))
-  ldg_row =
+  ldg_row_lem =
       let zero-mode : word_of (ldg_at w) ≡ ldg_bits + granule_count 9 (signed_amount 256 (bits_at w 12 9)) * 2 ^ 12 + 0 * 2 ^ 10 + bits_at w 5 5 * 2 ^ 5 + bits_at w 0 5 =
       omega arith in
       ap (λ (k : ℕ). eqb k w) zero-mode ∙ memory_tags_row ldg_bits (tag_store_top Stzg) 0 refl (omega arith)
 
-  stgp_row : (mode : Mode) → eqb (word_of (stgp_at mode w)) w ≡ eqb (bits_at w 22 10) (stgp_top mode)
+  stgp_row_lem : (mode : Mode) → eqb (word_of (stgp_at mode w)) w ≡ eqb (bits_at w 22 10) (stgp_top mode)
   unfolding bits
-  stgp_row mode =
+  stgp_row_lem mode =
       ap (λ (i : ℕ). eqb (stgp_bits mode + i * 2 ^ 15 + bits_at w 10 5 * 2 ^ 10 + bits_at w 5 5 * 2 ^ 5 + bits_at w 0 5) w)
       (simm7_count (bits_at w 15 7) (omega arith))
       ∙ one_test (stgp_sum mode)
@@ -145,26 +145,26 @@ module _ (top w : ℕ) where
   two_source_row op rest =
       cond (eqb top (two_source_top op) && (eqb (bits_at w 21 1) 0 && eqb (bits_at w 10 6) (opcode op))) (Is (two_source_at op w)) rest
 
-  abbrev ldgRow : Decoded → Decoded
-  ldgRow rest = cond (eqb top (tag_store_top Stzg) && (eqb (bits_at w 21 1) 1 && eqb (bits_at w 10 2) 0)) (Is (ldg_at w)) rest
+  abbrev ldg_row : Decoded → Decoded
+  ldg_row rest = cond (eqb top (tag_store_top Stzg) && (eqb (bits_at w 21 1) 1 && eqb (bits_at w 10 2) 0)) (Is (ldg_at w)) rest
 
   abbrev tag_store_row : TagStoreOp → Mode → Decoded → Decoded
   tag_store_row op mode rest =
       cond (eqb top (tag_store_top op) && (eqb (bits_at w 21 1) 1 && eqb (bits_at w 10 2) (mode_bits mode))) (Is (tag_store_at op mode w)) rest
 
-  abbrev stgpRow : Mode → Decoded → Decoded
-  stgpRow mode rest = cond (eqb top (stgp_top mode)) (Is (stgp_at mode w)) rest
+  abbrev stgp_row : Mode → Decoded → Decoded
+  stgp_row mode rest = cond (eqb top (stgp_top mode)) (Is (stgp_at mode w)) rest
 
-  abbrev storeRows : TagStoreOp → Decoded → Decoded
-  storeRows op rest = tag_store_row op Post (tag_store_row op Pre (tag_store_row op Offset rest))
+  abbrev store_rows : TagStoreOp → Decoded → Decoded
+  store_rows op rest = tag_store_row op Post (tag_store_row op Pre (tag_store_row op Offset rest))
 
   abbrev rows : Decoded
   rows =
       add_sub_row Addg (add_sub_row Subg
       (two_source_row Subp (two_source_row Subps (two_source_row Irg (two_source_row Gmi
-      (ldgRow
-      (storeRows Stg (storeRows Stzg (storeRows St2g (storeRows Stz2g
-      (stgpRow Post (stgpRow Pre (stgpRow Offset Undefined)))))))))))))
+      (ldg_row
+      (store_rows Stg (store_rows Stzg (store_rows St2g (store_rows Stz2g
+      (stgp_row Post (stgp_row Pre (stgp_row Offset Undefined)))))))))))))
 
 by_rows : (w : ℕ) → w < 2 ^ 32 → decode_of w ≡ rows (bits_at w 22 10) w
 unfolding decode_of forms_at form_of
@@ -176,9 +176,9 @@ by_rows w h =
       two_source_row_lem w h Subps,
       two_source_row_lem w h Irg,
       two_source_row_lem w h Gmi,
-      ldg_row w h,
+      ldg_row_lem w h,
       tag_store_row_lem w h,
-      stgp_row w h,
+      stgp_row_lem w h,
     )
 
 -- the rows that bits 31:22 leave, one set for each value

@@ -3,7 +3,7 @@ use Prim.Native.Nat.{ℕ, suc}
 use mathlib.Core.List.{List, [], ◌∷◌}
 use mathlib.Core.Path.{◌≡◌, refl, ap, subst}
 use Rattle.machine.specs.declared.Code.{Code}
-use Rattle.execution.specs.Calls.{Call, stepCall, runCall, backCall, Out, refused, done, Answer, Returned, returned, answered, one_more, in_order, Callable, call, Ended, calls}
+use Rattle.execution.specs.Calls.{Call, step_call, run_call, back_call, Out, refused, done, Answer, Returned, returned, answered, one_more, in_order, Callable, call, Ended, calls}
 
 module _ {X Y : Type 0} (R : X → Y → Type 0) where
   -- both are refused with one code, or both are done and keep the relation
@@ -57,9 +57,9 @@ module _ {X Y : Type 0} (R : X → Y → Type 0) where
   module _ (m : Callable X) (n : Callable Y) (alike : CallsAlike m n) where
     call_alike : (c : Call) (x : X) (y : Y) → R x y → ReturnedAlike (call m x c) (call n y c)
     unfolding call
-    call_alike (stepCall w) x y r = answered_alike x y r (m.step x w) (n.step y w) (alike.step x y w r)
-    call_alike (runCall ws) x y r = alike.run x y ws r
-    call_alike backCall x y r = answered_alike x y r (m.back x) (n.back y) (alike.back x y r)
+    call_alike (step_call w) x y r = answered_alike x y r (m.step x w) (n.step y w) (alike.step x y w r)
+    call_alike (run_call ws) x y r = alike.run x y ws r
+    call_alike back_call x y r = answered_alike x y r (m.back x) (n.back y) (alike.back x y r)
 
     pub calls_alike : (cs : List Call) (x : X) (y : Y) → R x y → EndedAlike (calls m x cs) (calls n y cs)
     unfolding calls

@@ -9,7 +9,7 @@ use borrow.Author.Tests.{le-ltb, ne_eqb}
 use lib.Dec.{ltb}
 use lib.ListN.{length, drop, length-append, length-map}
 use lib.Seq.{take-append_seam, drop-append_seam}
-use Rattle.execution.specs.Calls.{Call, stepCall, runCall, backCall}
+use Rattle.execution.specs.Calls.{Call, step_call, run_call, back_call}
 use Rattle.simulator.specs.Playing.{EveryListIsPlayed, all_taken, all_words, call_of, listed, call_number, play_code, call_words, words_taken}
 
 -- a call's number, on its words with others behind them
@@ -20,17 +20,17 @@ record Listed (c : Call) (rest : List ℕ) : Type 0 where
 
 one_listed : (c : Call) (rest : List ℕ) → Listed c rest
 unfolding call_of words_taken
-one_listed (stepCall word) rest = record { itself = refl; behind = refl; all = refl }
-one_listed (runCall words) rest =
+one_listed (step_call word) rest = record { itself = refl; behind = refl; all = refl }
+one_listed (run_call words) rest =
     let back = ne_eqb (2 + length words) 0 (λ e. omega (arith, e)) in
     let step = ne_eqb (2 + length words) 1 (λ e. omega (arith, e)) in
     let n : 2 + length words - 2 ≡ length words = omega arith in
     record {
-      itself = rw (back, step, n) (ap runCall (take-append_seam words rest));
+      itself = rw (back, step, n) (ap run_call (take-append_seam words rest));
       behind = rw (back, step, n) (drop-append_seam words rest);
       all = rw (back, step, n);
     }
-one_listed backCall rest = record { itself = refl; behind = refl; all = refl }
+one_listed back_call rest = record { itself = refl; behind = refl; all = refl }
 
 all_listed : (list : List Call) → listed (map call_number list) (all_words list) ≡ list
 unfolding listed

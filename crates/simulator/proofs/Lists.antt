@@ -13,7 +13,7 @@ use lib.Seq.{drop-cons, drop-drop, sets}
 use Rattle.machine.specs.Codes.{code_number}
 use Rattle.simulator.specs.declared.playing.PlayCode.{PlayCode}
 use Rattle.simulator.specs.declared.playing.PlayCode.TheVariants.{Done, NoRoom, NoWords}
-use Rattle.execution.specs.Calls.{Ended, Returned, answered, returned, stepCall, runCall, in_order, call, calls}
+use Rattle.execution.specs.Calls.{Ended, Returned, answered, returned, step_call, run_call, in_order, call, calls}
 use Rattle.simulator.specs.Playing.{all_taken, call_of, codes_of, counts_of, listed, play_code, play_number, play_of, played, words_taken}
 use Rattle.execution.specs.Simulation.{Simulation, well_formed}
 use Rattle.execution.specs.Steps.{step_of, run_of, simulator}
@@ -100,7 +100,7 @@ module _ (s : Simulation) (h : well_formed s ≡ true) (number : ℕ) (some : nu
       go : (t : Bool) (words : List ℕ) → cond t 1 (number - 2) ≤ length words → (l : Returned Simulation)
           → l ≡ in_order step_of s (take (cond t 1 (number - 2)) words)
           → returned l.answer.code (cond t 0 l.answer.count) l.after
-          ≡ call simulator s (cond t (stepCall (get_or words 0 0)) (runCall (take (number - 2) words)))
+          ≡ call simulator s (cond t (step_call (get_or words 0 0)) (run_call (take (number - 2) words)))
       go true words enough l e = step words enough l e
       go false words enough l e = rw h e
 

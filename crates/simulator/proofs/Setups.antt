@@ -21,7 +21,7 @@ use Rattle.history.specs.Recording.{restored}
 use Rattle.history.specs.Records.{entry_in}
 use Rattle.history.specs.Inside.Slots.{CursorPlaced, history_of}
 use Rattle.history.proofs.StatusWords.{in_range}
-use Rattle.execution.specs.Calls.{Call, stepCall, runCall, backCall, Out, refused, done, Returned, returned, answered, one_more, in_order, call, calls}
+use Rattle.execution.specs.Calls.{Call, step_call, run_call, back_call, Out, refused, done, Returned, returned, answered, one_more, in_order, call, calls}
 use Rattle.simulator.specs.Playing.{call_of, codes_of, counts_of, listed, words_taken}
 use Rattle.execution.specs.Simulation.{Simulation, well_formed}
 use Rattle.execution.specs.Steps.{step_of, run_of, step_back_of, simulator}
@@ -97,17 +97,17 @@ module _ (s : Simulation) (h : well_formed s ≡ true) where
 
 pub call_keeps : (c : Call) (s : Simulation) → well_formed s ≡ true → well_formed (call simulator s c).after ≡ true
 unfolding call run_of
-call_keeps (stepCall w) s h = step_formed s w h
-call_keeps (runCall ws) s h = rw h (run_formed ws s h)
-call_keeps backCall s h = back_formed s h
+call_keeps (step_call w) s h = step_formed s w h
+call_keeps (run_call ws) s h = rw h (run_formed ws s h)
+call_keeps back_call s h = back_formed s h
 
 -- on a setup that breaks a rule
 
 call_refused : (c : Call) (s : Simulation) → well_formed s ≡ false → call simulator s c ≡ returned Setup 0 s
 unfolding call run_of
-call_refused (stepCall w) s h = rw (ill_formed s w h)
-call_refused (runCall ws) s h = rw h
-call_refused backCall s h = rw (back_setup s h)
+call_refused (step_call w) s h = rw (ill_formed s w h)
+call_refused (run_call ws) s h = rw h
+call_refused back_call s h = rw (back_setup s h)
 
 calls_refused : (list words : List ℕ) (s : Simulation) → well_formed s ≡ false
     → (codes_of (calls simulator s (listed list words)).answers ≡ replicate (length list) (code_number Setup))

@@ -16,7 +16,7 @@ use Rattle.machine.specs.State.{State, Typed}
 use Rattle.machine.specs.Codes.{lowest}
 use Rattle.instructions.specs.WordOutcomes.{word_outcome}
 use Rattle.instructions.specs.Edges.{p1}
-use Rattle.execution.specs.Calls.{Callable, Out, refused, when_done, in_order, call, calls, stepCall}
+use Rattle.execution.specs.Calls.{Callable, Out, refused, when_done, in_order, call, calls, step_call}
 use Rattle.simulator.specs.Demand3.{Demand3}
 use Rattle.simulator.specs.PlainMachine.{plain_step}
 use Rattle.execution.specs.Simulation.{Simulation, well_formed}
@@ -46,6 +46,6 @@ typed = record { seed = omega arith; bytes = zeros 64; tags = zeros 4 }
 pub still_fails : Demand3 still → ⊥
 unfolding Demand3 calls call still still_step plain_step low_bytes decode_of form_of forms_at chosen skip walk all_inside sizes_ok state_ok lowest word_outcome
 still_fails d =
-    let a = (d start typed formed refl (stepCall 0x91810420 ∷ [])).state in
+    let a = (d start typed formed refl (step_call 0x91810420 ∷ [])).state in
     let e : ◌≡◌ {A = ℕ} 0 0x0300000000001010 = ap (λ (s : State). get_or s.registers.x 0 0) a in
     omega (arith, e)

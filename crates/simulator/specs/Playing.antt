@@ -6,14 +6,14 @@ use Rattle.machine.specs.Codes.{code_number}
 use Rattle.machine.specs.State.{State}
 use Rattle.simulator.specs.declared.playing.PlayCode.{PlayCode}
 use Rattle.simulator.specs.declared.playing.PlayCode.TheVariants.{Done, NoRoom, NoWords}
-use Rattle.execution.specs.Calls.{Answer, Call, stepCall, runCall, backCall, Ended, Callable, calls}
+use Rattle.execution.specs.Calls.{Answer, Call, step_call, run_call, back_call, Ended, Callable, calls}
 use Rattle.simulator.specs.Demand3.{plain_beside, plain_start}
 use Rattle.simulator.specs.PlainMachine.{Plain}
 use Rattle.execution.specs.Simulation.{Simulation, well_formed}
 
 -- the call of a number, which takes its words from the first on: 0 steps back, 1 steps, and 2 + n runs n words
 unfoldable pub call_of : ℕ → List ℕ → Call
-call_of number words = cond (eqb number 0) backCall (cond (eqb number 1) (stepCall (get_or words 0 0)) (runCall (take (number - 2) words)))
+call_of number words = cond (eqb number 0) back_call (cond (eqb number 1) (step_call (get_or words 0 0)) (run_call (take (number - 2) words)))
 
 -- how many words it takes
 unfoldable pub words_taken : ℕ → ℕ
@@ -30,14 +30,14 @@ all_taken (n ∷ ns) = words_taken n + all_taken ns
 
 -- a call's number, and the words that it takes
 abbrev pub call_number : Call → ℕ
-call_number (stepCall word) = 1
-call_number (runCall words) = 2 + length words
-call_number backCall = 0
+call_number (step_call word) = 1
+call_number (run_call words) = 2 + length words
+call_number back_call = 0
 
 abbrev pub call_words : Call → List ℕ
-call_words (stepCall word) = word ∷ []
-call_words (runCall words) = words
-call_words backCall = []
+call_words (step_call word) = word ∷ []
+call_words (run_call words) = words
+call_words back_call = []
 
 abbrev pub all_words : List Call → List ℕ
 all_words [] = []

@@ -17,4 +17,4 @@ amount_text v = cond (ltb v (2 ^ 63)) (decimal v) (ascii "-" ++ decimal (2 ^ 64 
 
 -- a register: x and its number, and 31 as its place has it, the zero register or SP
 unfoldable pub register_text : Bool → ℕ → List ℕ
-register_text dropsWrites r = cond (ltb r 31) (ascii "x" ++ decimal r) (cond dropsWrites (ascii "xzr") (ascii "sp"))
+register_text drops_writes r = cond (ltb r 31) (ascii "x" ++ decimal r) (cond drops_writes (ascii "xzr") (ascii "sp"))
