@@ -5,7 +5,7 @@ ghost use Rattle.std.specs.Prelude.{◌≡◌, ◌≤◌, length, take};
 
 use std::cell::Cell;
 use std::io;
-use std::io::{Print, Read};
+use std::io::{ErrorKind, Print, Read};
 
 // Tells a failure on standard error, in a line: failed, and the system's reason. If that fails too, there is no place left to tell it.
 fn fail(rt: &HostRuntime, failed: &[u8], reason: io::Error) {
@@ -58,14 +58,17 @@ pub fn open(rt: &HostRuntime) -> Output<'_> {
 }
 
 // Writes bytes to standard output. A write that fails is told on standard error, by failed and the system's reason, and is the last: what
-// is written stays the beginning of the answer, without a gap, and the failure is told once. That bytes are written no contract can say.
+// is written stays the beginning of the answer, without a gap, and the failure is told once; a reader that left early is told nothing.
+// That bytes are written no contract can say.
 pub fn write(to: &Output<'_>, bytes: &[u8], failed: &[u8]) {
     if to.has_failed.get() {
         return;
     }
     if let Err(reason) = to.rt.write_all(bytes) {
-        fail(to.rt, failed, reason);
         to.has_failed.set(true);
+        if reason.kind() != ErrorKind::BrokenPipe {
+            fail(to.rt, failed, reason);
+        }
     }
 }
 
