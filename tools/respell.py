@@ -1,5 +1,5 @@
 #!/usr/bin/env python3
-"""Spells the repository's own definitions and lemmas as Rattle's library spells its own, once, after /port.py of the kit.
+"""Spells the repository's own definitions and lemmas as Rattle's library spells its own, once, after the kit's port.py.
 
 usage: tools/respell.py        at the top of the repository
 
