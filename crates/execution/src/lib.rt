@@ -16,7 +16,7 @@ mod memory_words;
 mod register_words;
 
 // A word's code, and the status and the cursor after it.
-#[derive(Drop)]
+#[derive(Clone, Copy)]
 pub struct Taken {
     pub code: Code,
     pub status: u64,

@@ -9,7 +9,7 @@ use machine::{Code, Settings};
 use memory::Granule;
 
 // The first granule that an access names, or its refusal.
-#[derive(Drop)]
+#[derive(Clone, Copy)]
 pub enum Placed {
     First(usize),
     Nowhere(Code),

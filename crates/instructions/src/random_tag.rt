@@ -7,7 +7,7 @@ ghost use Rattle.instructions.specs.RegisterWords.{mask_of};
 use machine::Settings;
 
 // A tag that was chosen, and the seed after it.
-#[derive(Drop)]
+#[derive(Clone, Copy)]
 pub struct Chosen {
     pub tag: u8,
     pub seed: u16,

@@ -11,7 +11,7 @@ mod printer;
 mod runner;
 
 // How many lines there are, or the number from 1 of the first wrong, missing, unended or extra one.
-#[derive(Drop)]
+#[derive(Clone, Copy)]
 pub(crate) enum Lines {
     Good(usize),
     Bad(usize),

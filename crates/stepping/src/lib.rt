@@ -16,7 +16,7 @@ pub use undoing::back;
 mod undoing;
 
 // The code and the count of a call, and the status and the cursor after it.
-#[derive(Drop)]
+#[derive(Clone, Copy)]
 pub struct After {
     pub code: Code,
     pub count: usize,

@@ -7,7 +7,7 @@ ghost use Rattle.tag.specs.RandomBits.{drawn};
 ghost use Rattle.tag.specs.TagChoice.{chosen, masked};
 
 // Four random bits, and the seed after them.
-#[derive(Drop)]
+#[derive(Clone, Copy)]
 pub struct Drawn {
     pub bits: u8,
     pub seed: u16,

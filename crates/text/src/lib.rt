@@ -9,14 +9,14 @@ ghost use Rattle.text.specs.Hex.{digit_value, digit_of, read_hex, hex_digits, di
 ghost use Rattle.text.specs.Lines.{starts, room_for, framed, line_at, line_text, digits_line};
 
 // What some bytes spell.
-#[derive(Drop)]
+#[derive(Clone, Copy)]
 pub enum Hex {
     Value(u64),
     NotHex,
 }
 
 // What stands at a place: a line with its number and the place after it.
-#[derive(Drop)]
+#[derive(Clone, Copy)]
 pub enum Line {
     Is { value: u64, next: usize },
     Wrong,
