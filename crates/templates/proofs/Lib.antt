@@ -1,10 +1,8 @@
 -- Laws of the definitions, for the proofs here and in the crates above.
 pub mod Decimals
-pub mod Digits
 pub mod FirstRows
 pub mod OneLine
 pub mod OwnTemplate
-pub mod Places
 pub mod PutLine
 pub mod Reading
 pub mod Rows

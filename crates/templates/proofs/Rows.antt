@@ -1,19 +1,17 @@
 -- Rules of every row of the templates, each proved by one test that antt computes over all of them. Assumes nothing.
-use mathlib.Core.Path.{◌≡◌, refl, ap, sym, ◌∙◌, subst}
+use mathlib.Core.Path.{◌≡◌, refl, sym, subst}
 use mathlib.Core.Bool.{Bool, true, false, cond}
 use mathlib.Core.List.{List, [], ◌∷◌}
-use mathlib.Core.Logic.{⊎_elim}
 use Prim.Native.Nat.{ℕ, zero, suc, ◌+◌, ◌≤◌, ◌<◌}
 use native.Mathlib.Nat.{le_of_suc-le-suc, not-suc-le-zero}
 use native.Mathlib.Omega.{arith}
-use borrow.Author.Tests.{leb-true, eq-eqb}
-use lib.Dec.{leb, eqb}
-use lib.ListN.{length, get_or, length-append, get_or-eq_default}
+use borrow.Author.Tests.{leb-true}
+use lib.Dec.{leb}
+use lib.ListN.{length, get_or, length-append}
 use Rattle.templates.specs.Templates.{templates, template_at, piece_of, text_as, filled}
 use Rattle.templates.specs.declared.Fields.{Fields}
 use Rattle.templates.specs.declared.Piece.{Piece}
 use Rattle.templates.specs.declared.Piece.TheVariants.{Literal, SpRegister, ZeroRegister, Amount, TagOffset}
-use Rattle.templates.proofs.Decimals.{lt_or_ge}
 use Rattle.templates.proofs.Writing.{piece_short}
 
 pub true_not : true ≡ false → ⊥
@@ -71,34 +69,10 @@ pub line_short : (row : ℕ) (f : Fields) → row < 28 → length (filled (templ
 line_short row f h =
     omega (arith, filled_width (template_at row) f, leb-true (width (template_at row)) 100 (at_template (λ (t : List ℕ). leb (width t) 100) all_narrow row h))
 
--- no template has a zero byte, or is longer than 24 bytes
-abbrev no_zero : List ℕ → Bool
-no_zero [] = true
-no_zero (b ∷ t) = cond (eqb b 0) false (no_zero t)
-
-all_no_zero : all_rows no_zero templates ≡ true
-unfolding templates
-all_no_zero = refl
-
+-- no template is longer than 24 bytes
 all_fit : all_rows (λ (t : List ℕ). leb (length t) 24) templates ≡ true
 unfolding templates
 all_fit = refl
 
-zero_behind : (t : List ℕ) (i : ℕ) → no_zero t ≡ true → get_or t i 0 ≡ 0 → length t ≤ i
-zero_behind [] i e z = omega arith
-zero_behind (b ∷ t) zero e z = absurd (true_not (sym e ∙ ap (λ (x : Bool). cond x false (no_zero t)) (eq-eqb b 0 z)))
-zero_behind (b ∷ t) (suc i) e z = omega (arith, zero_behind t i (tail (eqb b 0) e) z)
-  where
-    tail : (x : Bool) → cond x false (no_zero t) ≡ true → no_zero t ≡ true
-    tail true k = absurd (true_not (sym k))
-    tail false k = k
-
-pub ended : (row i : ℕ) → row < 28 → get_or (template_at row) i 0 ≡ 0 → length (template_at row) ≤ i
-ended row i h z = zero_behind (template_at row) i (at_template no_zero all_no_zero row h) z
-
 pub fits : (row : ℕ) → row < 28 → length (template_at row) ≤ 24
 fits row h = leb-true (length (template_at row)) 24 (at_template (λ (t : List ℕ). leb (length t) 24) all_fit row h)
-
--- a byte that is not zero is the template's
-pub within : (t : List ℕ) (i b : ℕ) → b ≡ get_or t i 0 → (b ≡ 0 → ⊥) → i < length t
-within t i b e h = ⊎_elim (λ k. k) (λ k. absurd (h (e ∙ get_or-eq_default t 0 k))) (lt_or_ge i (length t))

@@ -2,7 +2,7 @@
 // crate of ours calls it with a row or a buffer that it knows to be in range.
 #![tactic(auto)]
 
-ghost use Rattle.std.specs.Prelude.{◌≡◌, ◌+◌, ◌≤◌, ◌<◌, length, get_or};
+ghost use Rattle.std.specs.Prelude.{◌≡◌, ◌+◌, ◌≤◌, ◌<◌, length};
 ghost use Rattle.std.proofs.lemmas.List.Edits.{sets};
 ghost use Rattle.templates.specs.FieldText.{decimal, amount_text, register_text};
 ghost use Rattle.templates.specs.Templates.{template_at, piece_of, register_of, text_as, filled};
@@ -10,7 +10,7 @@ ghost use Rattle.templates.specs.Templates.{template_at, piece_of, register_of, 
 pub mod reader;
 
 // The registers in the order in which a line names them, the amount modulo 2^64, and the tag offset.
-#[derive(Clone, Copy)]
+#[derive(Clone, Copy, Debug, PartialEq, Eq)]
 pub struct Fields {
     pub first: u64,
     pub second: u64,
@@ -20,7 +20,7 @@ pub struct Fields {
 }
 
 // What a byte of a template stands for.
-#[derive(Clone, Copy)]
+#[derive(Clone, Copy, Debug, PartialEq, Eq)]
 pub(crate) enum Piece {
     Literal,
     SpRegister,
@@ -29,97 +29,69 @@ pub(crate) enum Piece {
     TagOffset,
 }
 
-// What a template reads in a text.
-#[derive(Clone, Copy)]
-pub(crate) enum Match {
-    Of(Fields),
-    Mismatch,
-}
+// The templates, one for each shape of a line.
+const TEMPLATES: [&[u8]; 28] = [
+    b"addg A, B, #I, #J\n",
+    b"subg A, B, #I, #J\n",
+    b"subp X, B, C\n",
+    b"subps X, B, C\n",
+    b"irg A, B, Z\n",
+    b"gmi X, B, Z\n",
+    b"ldg X, [B]\n",
+    b"ldg X, [B, #I]\n",
+    b"stg A, [B], #I\n",
+    b"stg A, [B, #I]!\n",
+    b"stg A, [B]\n",
+    b"stg A, [B, #I]\n",
+    b"stzg A, [B], #I\n",
+    b"stzg A, [B, #I]!\n",
+    b"stzg A, [B]\n",
+    b"stzg A, [B, #I]\n",
+    b"st2g A, [B], #I\n",
+    b"st2g A, [B, #I]!\n",
+    b"st2g A, [B]\n",
+    b"st2g A, [B, #I]\n",
+    b"stz2g A, [B], #I\n",
+    b"stz2g A, [B, #I]!\n",
+    b"stz2g A, [B]\n",
+    b"stz2g A, [B, #I]\n",
+    b"stgp X, Y, [C], #I\n",
+    b"stgp X, Y, [C, #I]!\n",
+    b"stgp X, Y, [C]\n",
+    b"stgp X, Y, [C, #I]\n",
+];
 
-// The row of the template that reads a text, with the fields that it reads.
-#[derive(Clone, Copy)]
-pub enum Row {
-    Reads { row: usize, fields: Fields },
-    Nothing,
-}
-
-// The templates, 24 bytes each, filled up with zeros.
-const TEMPLATES: [u8; 672] = *b"\
-    addg A, B, #I, #J\n\0\0\0\0\0\0\
-    subg A, B, #I, #J\n\0\0\0\0\0\0\
-    subp X, B, C\n\0\0\0\0\0\0\0\0\0\0\0\
-    subps X, B, C\n\0\0\0\0\0\0\0\0\0\0\
-    irg A, B, Z\n\0\0\0\0\0\0\0\0\0\0\0\0\
-    gmi X, B, Z\n\0\0\0\0\0\0\0\0\0\0\0\0\
-    ldg X, [B]\n\0\0\0\0\0\0\0\0\0\0\0\0\0\
-    ldg X, [B, #I]\n\0\0\0\0\0\0\0\0\0\
-    stg A, [B], #I\n\0\0\0\0\0\0\0\0\0\
-    stg A, [B, #I]!\n\0\0\0\0\0\0\0\0\
-    stg A, [B]\n\0\0\0\0\0\0\0\0\0\0\0\0\0\
-    stg A, [B, #I]\n\0\0\0\0\0\0\0\0\0\
-    stzg A, [B], #I\n\0\0\0\0\0\0\0\0\
-    stzg A, [B, #I]!\n\0\0\0\0\0\0\0\
-    stzg A, [B]\n\0\0\0\0\0\0\0\0\0\0\0\0\
-    stzg A, [B, #I]\n\0\0\0\0\0\0\0\0\
-    st2g A, [B], #I\n\0\0\0\0\0\0\0\0\
-    st2g A, [B, #I]!\n\0\0\0\0\0\0\0\
-    st2g A, [B]\n\0\0\0\0\0\0\0\0\0\0\0\0\
-    st2g A, [B, #I]\n\0\0\0\0\0\0\0\0\
-    stz2g A, [B], #I\n\0\0\0\0\0\0\0\
-    stz2g A, [B, #I]!\n\0\0\0\0\0\0\
-    stz2g A, [B]\n\0\0\0\0\0\0\0\0\0\0\0\
-    stz2g A, [B, #I]\n\0\0\0\0\0\0\0\
-    stgp X, Y, [C], #I\n\0\0\0\0\0\
-    stgp X, Y, [C, #I]!\n\0\0\0\0\
-    stgp X, Y, [C]\n\0\0\0\0\0\0\0\0\0\
-    stgp X, Y, [C, #I]\n\0\0\0\0\0";
-
-// A byte of a row's template, and 0 behind its end.
-pub(crate) fn template_byte(row: usize, i: usize) -> u8
-    requires row_bound { row < 28 }
-    requires i_bound { i < 24 }
-    ensures { result ≡ get_or (template_at row) i 0 }
+// The template of a row.
+fn template_at(row: usize) -> &'static [u8]
+    requires { row < 28 }
+    ensures { result.now ≡ template_at row }
 {
-    TEMPLATES[row * 24 + i]
+    TEMPLATES[row]
 }
 
 // What a byte of a template stands for.
+#[tactic(auto, unfolding(crate::specs::Templates::piece_of))]
 pub(crate) fn piece_of(l: u8) -> Piece
     ensures { result ≡ piece_of l }
 {
-    if l < b'A' {
-        Piece::Literal
-    } else if l <= b'C' {
-        Piece::SpRegister
-    } else if l < b'I' {
-        Piece::Literal
-    } else if l == b'I' {
-        Piece::Amount
-    } else if l == b'J' {
-        Piece::TagOffset
-    } else if l < b'X' {
-        Piece::Literal
-    } else if l <= b'Z' {
-        Piece::ZeroRegister
-    } else {
-        Piece::Literal
+    match l {
+        b'A'..=b'C' => Piece::SpRegister,
+        b'I' => Piece::Amount,
+        b'J' => Piece::TagOffset,
+        b'X'..=b'Z' => Piece::ZeroRegister,
+        _ => Piece::Literal,
     }
 }
 
 // The register that a letter names.
+#[tactic(auto, unfolding(crate::specs::Templates::register_of))]
 fn register_of(l: u8, f: Fields) -> u64
     ensures { result ≡ register_of l f }
 {
-    if l == b'A' {
-        f.first
-    } else if l == b'X' {
-        f.first
-    } else if l == b'B' {
-        f.second
-    } else if l == b'Y' {
-        f.second
-    } else {
-        f.third
+    match l {
+        b'A' | b'X' => f.first,
+        b'B' | b'Y' => f.second,
+        _ => f.third,
     }
 }
 
@@ -128,7 +100,7 @@ fn digit(v: u64) -> u8
     requires { v < 10 }
     ensures { result ≡ 48 + v }
 {
-    48 + v as u8
+    b'0' + v as u8
 }
 
 // Each function that puts a text at at answers the place behind it.
@@ -148,15 +120,16 @@ fn put_decimal(out: &mut [u8], at: usize, v: u64) -> usize
 }
 
 // Puts an amount modulo 2^64, with its sign.
+#[tactic(auto, unfolding(crate::specs::FieldText::amount_text))]
 fn put_amount(out: &mut [u8], at: usize, v: u64) -> usize
     requires { at + 21 ≤ length out.old }
     ensures { (result ≡ at + length (amount_text v)) × (out.new ≡ sets out.old at (amount_text v)) }
 {
-    if v < 0x8000_0000_0000_0000 {
+    if v < 1 << 63 {
         put_decimal(out, at, v)
     } else {
         out[at] = b'-';
-        put_decimal(out, at + 1, 0xFFFF_FFFF_FFFF_FFFF - v + 1)
+        put_decimal(out, at + 1, v.wrapping_neg())
     }
 }
 
@@ -169,6 +142,7 @@ fn put_name(out: &mut [u8], at: usize, name: &[u8]) -> usize
 }
 
 // Puts a register's name.
+#[tactic(auto, unfolding(crate::specs::FieldText::register_text))]
 fn put_register(out: &mut [u8], at: usize, r: u64, zero: bool) -> usize
     requires { at + 21 ≤ length out.old }
     ensures { (result ≡ at + length (register_text zero r)) × (out.new ≡ sets out.old at (register_text zero r)) }
@@ -184,6 +158,7 @@ fn put_register(out: &mut [u8], at: usize, r: u64, zero: bool) -> usize
 }
 
 // Puts what a byte of a template stands for.
+#[tactic(auto, unfolding(crate::specs::Templates::text_as))]
 fn put_piece(out: &mut [u8], at: usize, l: u8, f: Fields) -> usize
     requires { at + 21 ≤ length out.old }
     ensures { (result ≡ at + length (text_as (piece_of l) l f)) × (out.new ≡ sets out.old at (text_as (piece_of l) l f)) }
@@ -207,15 +182,9 @@ pub fn put_line(out: &mut [u8], row: usize, f: Fields) -> usize
     ensures value { result ≡ length (filled (template_at row) f) }
     ensures out_after { out.new ≡ sets out.old 0 (filled (template_at row) f) }
 {
-    let mut p = 0;
-    let mut i = 0;
-    while i < 24 {
-        let l = template_byte(row, i);
-        if l == 0 {
-            return p;
-        }
-        p = put_piece(out, p, l, f);
-        i += 1;
+    let mut at = 0;
+    for &l in template_at(row) {
+        at = put_piece(out, at, l, f);
     }
-    p
+    at
 }

@@ -1,54 +1,31 @@
-use mathlib.Core.Path.{◌≡◌, refl, sym, ap, ◌∙◌}
-use mathlib.Core.List.{List, []}
-use Prim.Native.Nat.{ℕ, ◌≤◌}
-use native.Mathlib.Omega.{arith}
-use lib.ListN.{length, drop, drop_of_length-le}
-use lib.Seq.{sets}
-use Rattle.templates.specs.Templates.{template_at, piece_of, filled}
-use Rattle.templates.specs.declared.Fields.{Fields}
-use Rattle.templates.proofs.Rows.{ended, fits, within}
-use Rattle.templates.proofs.Writing.{piece_short, line_turn, filled_nil}
-use Rattle.templates.proofs.PutLine.{Left}
+use Rattle.std.proofs.Common.{◌∙◌, arith, refl, ap, length, get_or}
+use Rattle.templates.specs.Templates.{piece_of}
+use Rattle.templates.proofs.Rows.{fits}
+use Rattle.templates.proofs.Writing.{piece_short, line_turn}
+use Rattle.templates.proofs.PutLine.{finished}
 use Rattle.templates.proofs.put_line.Goals as goal
 
--- behind the template's end nothing is left
-finished : (out₀ t : List ℕ) (f : Fields) (out : List ℕ) (p i : ℕ) → length t ≤ i → Left out₀ t f out p i
-    → (p ≡ length (filled t f)) × (out ≡ sets out₀ 0 (filled t f))
-finished out₀ t f out p i h left =
-    let none : filled (drop i t) f ≡ [] = ap (λ (k : List ℕ). filled k f) (drop_of_length-le t h) ∙ filled_nil f in
-    (omega (arith, left.0, ap length none), sym (left.1 ∙ ap (sets out p) none))
+pub loop-l-init : goal.loop-l-init
+loop-l-init c = record { room = c.requires.out_len; short = omega arith; left = (omega arith, refl) }
 
-pub loop-i-init : goal.loop-i-init
-loop-i-init c = (omega arith, omega arith, omega arith, (omega arith, refl))
+pub put_piece-at-requires : goal.put_piece-at-requires
+put_piece-at-requires c =
+    omega (arith, fits c.args.row c.requires.row_bound, ap length c.template_at-l-items.ensures)
 
-pub returns-then-l-eq0 : goal.returns-then-l-eq0
-returns-then-l-eq0 c =
-    let a = c.args in
-    let whole = finished a.out.now (template_at a.row) a.f c.loop-i.out c.loop-i.p c.loop-i.i
-    (ended a.row c.loop-i.i (omega arith) (sym c.template_byte-l.ensures ∙ c.if-l-eq0.true)) c.loop-i.invariant.3 in
-    record { value = whole.0; out_after = whole.1 }
-
-pub put_piece-p-requires : goal.put_piece-p-requires
-put_piece-p-requires c = let l = c in omega (arith, l.loop-i.invariant.1, l.loop-i.invariant.2)
-
-pub loop-i-preserved : goal.loop-i-preserved
-loop-i-preserved c =
-    let q = c in
-    let l = q in
-    let a = l.args in
-    let b = q.template_byte-l in
-    let t : List ℕ = template_at a.row in
-    let inside = within t l.loop-i.i b.result b.ensures q.if-l-eq0.false in
-    let turn = line_turn l.loop-i.out l.loop-i.p t a.f l.loop-i.i b.result q.put_piece-p.result _ inside b.ensures q.put_piece-p.ensures in (
-      omega arith,
-      q.put_piece-p.auto.out ∙ l.loop-i.invariant.1,
-      omega (arith, q.put_piece-p.ensures.0, l.loop-i.invariant.2, piece_short (piece_of b.result) b.result a.f),
-      (l.loop-i.invariant.3.0 ∙ turn.0, l.loop-i.invariant.3.1 ∙ turn.1),
-    )
+pub loop-l-preserved : goal.loop-l-preserved
+loop-l-preserved c =
+    let l = c.loop-l in
+    let t = c.template_at-l-items.result.now in
+    let p = c.put_piece-at in
+    let b = get_or t l.l-index 0 in
+    let turn = line_turn l.out l.at t c.args.f l.l-index b p.result p.new.out c.loop-l-test.true refl p.ensures in
+    record {
+      room = p.auto.out ∙ l.invariant.room;
+      short = omega (arith, p.ensures.0, piece_short (piece_of b) b c.args.f);
+      left = (l.invariant.left.0 ∙ turn.0, l.invariant.left.1 ∙ turn.1);
+    }
 
 pub returns : goal.returns
 returns c =
-    let a = c.args in
-    let whole = finished a.out.now (template_at a.row) a.f c.loop-i.out c.loop-i.p c.loop-i.i
-    (omega (arith, fits a.row (omega arith))) c.loop-i.invariant.3 in
+    let whole = finished c.args.out.now _ c.template_at-l-items.result.now c.args.f c.loop-l.out c.loop-l.at c.loop-l.l-index (omega arith) c.template_at-l-items.ensures c.loop-l.invariant.left in
     record { value = whole.0; out_after = whole.1 }

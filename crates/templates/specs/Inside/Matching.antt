@@ -1,19 +1,20 @@
 -- The first template that reads a text, and why a line is read by its own template alone. No notion of document 02.
-use Rattle.std.specs.Prelude.{ℕ, suc, Bool, true, false, cond, List, [], ◌∷◌, eqb}
+use Rattle.std.specs.Prelude.{ℕ, suc, Bool, true, false, cond, List, [], ◌∷◌, eqb, Option, Some, None}
 use Rattle.templates.specs.Templates.{piece_of}
 use Rattle.templates.specs.Inside.Reading.{is_digit, is_literal, set_as, field_as, read_by}
 use Rattle.templates.specs.declared.Fields.{Fields}
-use Rattle.templates.specs.declared.Match.TheVariants.{Of, Mismatch}
-use Rattle.templates.specs.declared.Row.{Row}
-use Rattle.templates.specs.declared.Row.TheVariants.{Reads, Nothing}
+use Rattle.templates.specs.declared.reader.Reading.{Reading}
 
 abbrev pub no_fields : Fields
 no_fields = record { first = 0; second = 0; third = 0; amount = 0; offset = 0 }
 
+abbrev pub reading : ℕ → Fields → Reading
+reading n f = record { row = n; fields = f }
+
 -- the first template that reads the text, its row counted from n, with the fields
-unfoldable pub row_from : List (List ℕ) → List ℕ → ℕ → Row
-row_from [] s n = Nothing
-row_from (t ∷ ts) s n = elim (read_by t s no_fields) [ Of f ↦ Reads n f | Mismatch ↦ row_from ts s (suc n) ]
+unfoldable pub row_from : List (List ℕ) → List ℕ → ℕ → Option Reading
+row_from [] s n = None
+row_from (t ∷ ts) s n = elim (read_by t s no_fields) [ Some f ↦ Some (reading n f) | None ↦ row_from ts s (suc n) ]
 
 -- the fields that a template names, taken over
 unfoldable pub taken : List ℕ → Fields → Fields → Fields

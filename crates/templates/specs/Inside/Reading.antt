@@ -1,12 +1,10 @@
 -- How the fields of a text are read by a template. Reading is not strict: that a line is spelled as it must be is seen by writing it
 -- anew. No notion of document 02.
-use Rattle.std.specs.Prelude.{ℕ, ◌+◌, ◌-◌, ◌*◌, ◌^◌, ◌≤◌, Bool, true, false, cond, List, [], ◌∷◌, ◌≡◌, ltb, eqb, get_or, drop}
+use Rattle.std.specs.Prelude.{ℕ, ◌-◌, ◌+◌, ◌*◌, ◌^◌, Bool, true, false, cond, List, [], ◌∷◌, ◌≡◌, ltb, eqb, get_or, drop, Option, Some, None}
 use Rattle.templates.specs.Templates.{piece_of, register_of}
 use Rattle.templates.specs.declared.Fields.{Fields}
 use Rattle.templates.specs.declared.Piece.{Piece}
 use Rattle.templates.specs.declared.Piece.TheVariants.{Literal, SpRegister, ZeroRegister, Amount, TagOffset}
-use Rattle.templates.specs.declared.Match.{Match}
-use Rattle.templates.specs.declared.Match.TheVariants.{Of, Mismatch}
 
 -- a number, and the text behind it
 pub record Got : Type 0 where
@@ -87,20 +85,14 @@ is_literal Amount = false
 is_literal TagOffset = false
 
 -- a text read by a template, the fields so far being f
-unfoldable pub read_by : List ℕ → List ℕ → Fields → Match
-read_by [] s f = Of f
+unfoldable pub read_by : List ℕ → List ℕ → Fields → Option Fields
+read_by [] s f = Some f
 read_by (l ∷ t) s f =
     cond (is_literal (piece_of l))
-    (cond (eqb l (get_or s 0 0)) (read_by t (drop 1 s) f) Mismatch)
+    (cond (eqb l (get_or s 0 0)) (read_by t (drop 1 s) f) None)
     (read_by t (read_as (piece_of l) s).rest (set_as (piece_of l) l (read_as (piece_of l) s).value f))
 
--- what the code answers of a field that stands at a place of a text and has at most so many bytes
-pub record ReadAt (most : ℕ) (s : List ℕ) (at : ℕ) (g : Got) (v next : ℕ) : Type 0 where
-  pub value : v ≡ g.value
-  pub rest : drop next s ≡ g.rest
-  pub near : next ≤ at + most
-
--- what it answers of one byte of a template: how the text is read on, whatever stands behind that byte
-pub record TurnOf (s : List ℕ) (at l : ℕ) (f : Fields) (fits : Bool) (next : ℕ) (fields : Fields) : Type 0 where
-  pub read : (t : List ℕ) → read_by (l ∷ t) (drop at s) f ≡ cond fits (read_by t (drop next s) fields) Mismatch
-  pub near : next ≤ at + 101
+-- what the code answers of a field: its number, and the text behind it
+pub record IsRead (value : ℕ) (rest : List ℕ) (g : Got) : Type 0 where
+  pub value_is : value ≡ g.value
+  pub rest_is : rest ≡ g.rest

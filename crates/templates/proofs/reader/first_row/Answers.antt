@@ -1,27 +1,25 @@
-use mathlib.Core.Path.{refl, sym, ◌∙◌}
-use native.Mathlib.Omega.{arith}
-use Rattle.templates.proofs.FirstRows.{row_reads, row_passed, no_row}
+use Rattle.std.proofs.Common.{refl, arith, sym, ◌∙◌}
+use Rattle.templates.specs.Templates.{templates}
+use Rattle.templates.proofs.FirstRows.{row_asked, no_row}
 use Rattle.templates.proofs.reader.first_row.Goals as goal
 
 pub loop-row-init : goal.loop-row-init
-loop-row-init c = (omega arith, refl)
+unfolding templates
+loop-row-init c = record { table = record { same = refl }; on = refl }
 
-pub returns-in-Of : goal.returns-in-Of
-returns-in-Of c =
-    let r = c in
-    let l = r in
-    let a = l.args in
-    sym (l.loop-row.invariant.1 ∙ row_reads a.s.now l.loop-row.row (omega arith) _ (sym c.in-Of.is ∙ r.read_by.ensures))
+pub returns-in-Some : goal.returns-in-Some
+returns-in-Some c =
+    let l = c.loop-row in
+    sym (l.invariant.on ∙ row_asked _ _ l.row c.args.s.now _ l.invariant.table c.read_by.ensures (omega arith) ∙ rw c.in-Some.is)
 
 pub loop-row-preserved : goal.loop-row-preserved
 loop-row-preserved c =
-    let r = c in
-    let l = r in
-    let a = l.args in
-    (omega arith, l.loop-row.invariant.1 ∙ row_passed a.s.now l.loop-row.row (omega arith) (sym c.in-Mismatch.is ∙ r.read_by.ensures))
+    let l = c.loop-row in
+    record {
+      table = l.invariant.table;
+      on = l.invariant.on ∙ row_asked _ _ l.row c.args.s.now _ l.invariant.table c.read_by.ensures (omega arith) ∙ rw c.in_default.is;
+    }
 
 pub returns : goal.returns
 returns c =
-    let l = c in
-    let a = l.args in
-    sym (l.loop-row.invariant.1 ∙ no_row a.s.now l.loop-row.row (omega arith))
+    sym (c.loop-row.invariant.on ∙ no_row c.args.s.now c.loop-row.row (omega arith))
