@@ -43,7 +43,7 @@ fn tag_store_row(op: TagStoreOp) -> usize
 fn shown_row(amount: u64) -> usize
     ensures { result ≡ shown_row amount }
 {
-    if amount == 0 { 0 } else { 1 }
+    usize::from(amount != 0)
 }
 
 fn mode_row(mode: Mode, amount: u64) -> usize
