@@ -1,12 +1,16 @@
 -- The reader's method finds what a text is read to. Assumes nothing.
-use Prim.Native.Nat.{ℕ, zero, suc, ◌+◌, ◌-◌, ◌%◌, ◌^◌, ◌≤◌, ◌<◌}
+use Rattle.std.proofs.Common.{Option, Some, None, Result, Ok, Err}
+use Rattle.std.specs.Str.{bytes_eq}
+use Rattle.std.proofs.lemmas.Bool.Decides.{same_from_decides}
+use Rattle.std.proofs.lemmas.Slice.Eq.{bytes_eq-Decides}
+use Prim.Native.Nat.{ℕ, zero, suc, ◌+◌, ◌-◌, ◌%◌, ◌^◌, ◌<◌}
 use native.Mathlib.Nat.{not-suc-le-zero}
 use native.Mathlib.Omega.{arith}
 use mathlib.Core.Path.{◌≡◌, refl, ap, sym, ◌∙◌, subst}
 use mathlib.Core.Bool.{Bool, true, false, cond, ◌&&◌, ◌||◌, and-eq-true_iff}
 use mathlib.Core.List.{List, [], ◌∷◌}
 use mathlib.Core.Logic.{⊎_elim}
-use borrow.Author.Tests.{leb-true, eqb-true, eq-eqb, le-leb, lt-leb, le-ltb}
+use borrow.Author.Tests.{leb-true, eqb-true, eq-eqb, lt-leb, le-ltb}
 use lib.Dec.{leb, ltb, eqb}
 use lib.ListN.{length}
 use Rattle.text.specs.Lines.{starts}
@@ -19,19 +23,14 @@ use Rattle.isa.specs.declared.TagStoreOp.{TagStoreOp}
 use Rattle.isa.specs.declared.TagStoreOp.TheVariants.{Stg, Stzg, St2g, Stz2g}
 use Rattle.isa.specs.declared.Form.{Form}
 use Rattle.isa.specs.declared.Form.TheVariants.{AddSub, TwoSource, Ldg, TagStore, Stgp}
-use Rattle.isa.specs.declared.Decoded.{Decoded}
-use Rattle.isa.specs.declared.Decoded.TheVariants.{Is, Undefined}
-use Rattle.isa.specs.declared.Encoded.{Encoded}
-use Rattle.isa.specs.declared.Encoded.TheVariants.{Word as Encodes, Field}
 use Rattle.isa.specs.Words.{word_of}
 use Rattle.isa.proofs.Fits.{two_registers, three_fields}
 use Rattle.isa.proofs.RoundTrip.{round_trip, decoded_fits}
-use Rattle.templates.specs.Inside.Matching.{no_fields, row_from, taken}
+use Rattle.templates.specs.Inside.Matching.{no_fields, reading, row_from, taken}
 use Rattle.templates.specs.Inside.Reading.{with_register, set_as, field_as}
 use Rattle.templates.specs.Templates.{templates, template_at, piece_of, register_of}
 use Rattle.templates.specs.declared.Fields.{Fields}
-use Rattle.templates.specs.declared.Row.{Row}
-use Rattle.templates.specs.declared.Row.TheVariants.{Reads, Nothing}
+use Rattle.templates.specs.declared.reader.Reading.{Reading}
 use Rattle.templates.proofs.Decimals.{lt_or_ge}
 use Rattle.templates.proofs.OwnTemplate.{own_row}
 use Rattle.templates.proofs.Reading.{Fit}
@@ -39,9 +38,9 @@ use Rattle.templates.proofs.Rows.{true_not, both}
 use Rattle.listing.specs.Inside.Method.{form_at, encoded_read, read_form, read_row, read_by_method}
 use Rattle.listing.specs.Lines.{tag_store_row, row_of, fields_of, line_of}
 use Rattle.listing.specs.Reading.{same_text, is_line_of, read_below, read_of}
-use Rattle.listing.specs.declared.Read.{Read}
-use Rattle.listing.specs.declared.Read.TheVariants.{Word, BadLine}
-use Rattle.listing.proofs.Lengths.{row_small, line_short}
+use Rattle.listing.specs.declared.ReadError.{ReadError}
+use Rattle.listing.specs.declared.ReadError.TheVariants.{BadLine}
+use Rattle.listing.proofs.Lengths.{row_small}
 
 -- the form of the row and the fields that a line's template takes over is the form
 
@@ -142,72 +141,70 @@ same_is a b e =
     let k = (and-eq-true_iff (eqb (length a) (length b)) (starts a b)).0 e in
     starts_whole a b (eqb-true (length a) (length b) k.0) k.1
 
--- the method, on texts that can be a line and on longer ones
+-- as `==` on slices finds it
+pub same_by : (a b : List ℕ) → same_text a b ≡ bytes_eq a b
+same_by a b = same_from_decides (same_text a b) (bytes_eq a b) (same_is a b, λ e. ap (same_text a) (sym e) ∙ same_self a) (bytes_eq-Decides a b)
 
-pub method_long : (s : List ℕ) → 100 < length s → read_by_method s ≡ BadLine
-unfolding read_by_method
-method_long s h = simp (lt-leb (length s) 100 h)
+-- the method
 
-pub method_short : (s : List ℕ) (r : Row) → length s ≤ 100 → row_from templates s 0 ≡ r → read_by_method s ≡ read_row s r
+pub by_row : (s : List ℕ) (r : Option Reading) → row_from templates s 0 ≡ r → read_by_method s ≡ read_row s r
 unfolding read_by_method
-method_short s r h e = simp (le-leb (length s) 100 h) (ap (read_row s) e)
+by_row s r e = ap (read_row s) e
 
 -- a word's line is read to the word
-form_read : (s : List ℕ) (f : Form) (w : ℕ) → s ≡ line_of f → encode_of f ≡ Encodes w → read_form s f ≡ Word w
+form_read : (s : List ℕ) (f : Form) (w : ℕ) → s ≡ line_of f → encode_of f ≡ Some w → read_form s f ≡ Ok w
 unfolding read_form
 form_read s f w e k = rw (e, same_self (line_of f), k)
 
-own_template : (f : Form) → Fit (fields_of f) → row_from templates (line_of f) 0 ≡ Reads (row_of f) (taken (template_at (row_of f)) (fields_of f) no_fields)
+own_template : (f : Form) → Fit (fields_of f) → row_from templates (line_of f) 0 ≡ Some (reading (row_of f) (taken (template_at (row_of f)) (fields_of f) no_fields))
 unfolding line_of
 own_template f fit = own_row (row_of f) (fields_of f) fit (row_small f)
 
-own_line : (f : Form) (w : ℕ) → decode_of w ≡ Is f → read_by_method (line_of f) ≡ Word w
+own_line : (f : Form) (w : ℕ) → decode_of w ≡ Some f → read_by_method (line_of f) ≡ Ok w
 own_line f w e =
-    method_short (line_of f) _ (line_short f) (own_template f (fits f (decoded_fits w f e)))
+    by_row (line_of f) _ (own_template f (fits f (decoded_fits w f e)))
     ∙ ap (read_form (line_of f)) (form_again f) ∙ form_read (line_of f) f w refl (round_trip.reads_back w f e)
 
 -- and what the method reads to a word is that word's line
 
-encodes_only : (f : Form) (w : ℕ) (b : Bool) → fields_fit f ≡ b → encode_of f ≡ Encodes w → (decode_of w ≡ Is f) × (w < 2 ^ 32)
+encodes_only : (f : Form) (w : ℕ) (b : Bool) → fields_fit f ≡ b → encode_of f ≡ Some w → (decode_of w ≡ Some f) × (w < 2 ^ 32)
 encodes_only f w true e k =
     let same : word_of f ≡ w = cc (round_trip.encodes f e) in
-    (subst (λ (v : ℕ). decode_of v ≡ Is f) same (round_trip.decodes f e), subst (λ (v : ℕ). v < 2 ^ 32) same (round_trip.narrow f e))
+    (subst (λ (v : ℕ). decode_of v ≡ Some f) same (round_trip.decodes f e), subst (λ (v : ℕ). v < 2 ^ 32) same (round_trip.narrow f e))
 encodes_only f w false e k = let z : ◌≡◌ {A = ℕ} 0 1 = cc (round_trip.refuses f e) in absurd (omega arith)
 
 -- what a text that is read to a word says of the word
 abbrev Says : List ℕ → ℕ → Type 0
-Says s w = (f : Form) × (decode_of w ≡ Is f) × (s ≡ line_of f) × (w < 2 ^ 32)
+Says s w = (f : Form) × (decode_of w ≡ Some f) × (s ≡ line_of f) × (w < 2 ^ 32)
 
-form_only : (s : List ℕ) (f : Form) (w : ℕ) (b : Bool) (d : Encoded) → same_text (line_of f) s ≡ b → encode_of f ≡ d
-    → cond b (encoded_read d) BadLine ≡ Word w → Says s w
-form_only s f w true (Encodes v) e k h =
+form_only : (s : List ℕ) (f : Form) (w : ℕ) (b : Bool) (d : Option ℕ) → same_text (line_of f) s ≡ b → encode_of f ≡ d
+    → cond b (encoded_read d) (Err BadLine) ≡ Ok w → Says s w
+form_only s f w true (Some v) e k h =
     let same : v ≡ w = cc in
-    let found = encodes_only f w (fields_fit f) refl (k ∙ ap Encodes same) in
+    let found = encodes_only f w (fields_fit f) refl (k ∙ ap Some same) in
     (f, found.0, sym (same_is (line_of f) s e), found.1)
-form_only s f w true Field e k h = let z : ◌≡◌ {A = ℕ} 0 1 = cc in absurd (omega arith)
-form_only s f w false d e k h = let z : ◌≡◌ {A = ℕ} 0 1 = cc in absurd (omega arith)
+form_only s f w true None e k h = absurd cc
+form_only s f w false d e k h = absurd cc
 
-row_only : (s : List ℕ) (r : Row) (w : ℕ) → read_row s r ≡ Word w → Says s w
+row_only : (s : List ℕ) (r : Option Reading) (w : ℕ) → read_row s r ≡ Ok w → Says s w
 unfolding read_form
-row_only s (Reads row g) w h = form_only s (form_at row g) w (same_text (line_of (form_at row g)) s) (encode_of (form_at row g)) refl refl h
-row_only s Nothing w h = let z : ◌≡◌ {A = ℕ} 0 1 = cc in absurd (omega arith)
+row_only s (Some read) w h =
+    let f = form_at read.row read.fields in
+    form_only s f w (same_text (line_of f) s) (encode_of f) refl refl h
+row_only s None w h = absurd cc
 
-method_only : (s : List ℕ) (w : ℕ) → read_by_method s ≡ Word w → Says s w
+method_only : (s : List ℕ) (w : ℕ) → read_by_method s ≡ Ok w → Says s w
 unfolding read_by_method
-method_only s w h = by (leb (length s) 100) h
-  where
-    by : (b : Bool) → cond b (read_row s (row_from templates s 0)) BadLine ≡ Word w → Says s w
-    by true k = row_only s (row_from templates s 0) w k
-    by false k = let z : ◌≡◌ {A = ℕ} 0 1 = cc in absurd (omega arith)
+method_only s w h = row_only s (row_from templates s 0) w h
 
 -- the definition: the word below n whose line the text is
 
-line_says : (s : List ℕ) (w : ℕ) (d : Decoded) → decode_of w ≡ d
-    → elim d as (λ _. Bool) [ Is f ↦ same_text (line_of f) s | Undefined ↦ false ] ≡ true → (f : Form) × (decode_of w ≡ Is f) × (s ≡ line_of f)
-line_says s w (Is f) e h = (f, e, sym (same_is (line_of f) s h))
-line_says s w Undefined e h = absurd (true_not (sym h))
+line_says : (s : List ℕ) (w : ℕ) (d : Option Form) → decode_of w ≡ d
+    → elim d as (λ _. Bool) [ Some f ↦ same_text (line_of f) s | None ↦ false ] ≡ true → (f : Form) × (decode_of w ≡ Some f) × (s ≡ line_of f)
+line_says s w (Some f) e h = (f, e, sym (same_is (line_of f) s h))
+line_says s w None e h = absurd (true_not (sym h))
 
-is_line : (s : List ℕ) (w : ℕ) → is_line_of s w ≡ true → (f : Form) × (decode_of w ≡ Is f) × (s ≡ line_of f)
+is_line : (s : List ℕ) (w : ℕ) → is_line_of s w ≡ true → (f : Form) × (decode_of w ≡ Some f) × (s ≡ line_of f)
 unfolding is_line_of
 is_line s w h = line_says s w (decode_of w) refl h
 
@@ -215,45 +212,45 @@ says_line : (s : List ℕ) (w : ℕ) → Says s w → is_line_of s w ≡ true
 unfolding is_line_of
 says_line s w (f, e, k, h) = rw (e, is_line_of) (rw k (same_self (line_of f)))
 
-below_only : (n : ℕ) (s : List ℕ) (w : ℕ) → read_below n s ≡ Word w → (is_line_of s w ≡ true) × (w < n)
+below_only : (n : ℕ) (s : List ℕ) (w : ℕ) → read_below n s ≡ Ok w → (is_line_of s w ≡ true) × (w < n)
 unfolding read_below
-below_only zero s w h = let z : ◌≡◌ {A = ℕ} 0 1 = cc in absurd (omega arith)
+below_only zero s w h = absurd cc
 below_only (suc n) s w h = by (is_line_of s n) refl h (λ k. below_only n s w k)
   where
-    by : (b : Bool) → is_line_of s n ≡ b → cond b (Word n) (read_below n s) ≡ Word w → (read_below n s ≡ Word w → (is_line_of s w ≡ true) × (w < n)) → (is_line_of s w ≡ true) × (w < suc n)
+    by : (b : Bool) → is_line_of s n ≡ b → cond b (Ok n) (read_below n s) ≡ Ok w → (read_below n s ≡ Ok w → (is_line_of s w ≡ true) × (w < n)) → (is_line_of s w ≡ true) × (w < suc n)
     by true e k lower = let same : n ≡ w = cc in (subst (λ (v : ℕ). is_line_of s v ≡ true) same e, omega arith)
     by false e k lower = let r = lower k in (r.0, omega (arith, r.1))
 
-below_none : (n : ℕ) (s : List ℕ) (w : ℕ) → read_below n s ≡ BadLine → w < n → is_line_of s w ≡ true → ⊥
+below_none : (n : ℕ) (s : List ℕ) (w : ℕ) → read_below n s ≡ Err BadLine → w < n → is_line_of s w ≡ true → ⊥
 unfolding read_below
 below_none zero s w h k e = absurd (not-suc-le-zero k)
 below_none (suc n) s w h k e = by (is_line_of s n) refl h (λ g l. below_none n s w g l e)
   where
-    by : (b : Bool) → is_line_of s n ≡ b → cond b (Word n) (read_below n s) ≡ BadLine → (read_below n s ≡ BadLine → w < n → ⊥) → ⊥
-    by true f g lower = let z : ◌≡◌ {A = ℕ} 0 1 = cc in omega arith
+    by : (b : Bool) → is_line_of s n ≡ b → cond b (Ok n) (read_below n s) ≡ Err BadLine → (read_below n s ≡ Err BadLine → w < n → ⊥) → ⊥
+    by true f g lower = cc
     by false f g lower =
         ⊎_elim (λ l. lower g l)
         (λ l. let same : w ≡ n = omega arith in true_not (sym e ∙ ap (is_line_of s) same ∙ f))
         (lt_or_ge w n)
 
-of_only : (s : List ℕ) (w : ℕ) → read_of s ≡ Word w → Says s w
+of_only : (s : List ℕ) (w : ℕ) → read_of s ≡ Ok w → Says s w
 unfolding read_of
 of_only s w h =
     let r = below_only (2 ^ 32) s w h in
     let l = is_line s w r.0 in
     (l.0, l.1, l.2, r.1)
 
-of_none : (s : List ℕ) (w : ℕ) → read_of s ≡ BadLine → Says s w → ⊥
+of_none : (s : List ℕ) (w : ℕ) → read_of s ≡ Err BadLine → Says s w → ⊥
 unfolding read_of
 of_none s w h says = below_none (2 ^ 32) s w h says.3 (says_line s w says)
 
-own_says : (s : List ℕ) (w : ℕ) → Says s w → read_by_method s ≡ Word w
+own_says : (s : List ℕ) (w : ℕ) → Says s w → read_by_method s ≡ Ok w
 own_says s w (f, e, k, h) = ap read_by_method k ∙ own_line f w e
 
-agree : (s : List ℕ) (r m : Read) → read_of s ≡ r → read_by_method s ≡ m → m ≡ r
-agree s (Word w) m e k = sym k ∙ own_says s w (of_only s w e)
-agree s BadLine (Word w) e k = absurd (of_none s w e (method_only s w k))
-agree s BadLine BadLine e k = refl
+agree : (s : List ℕ) (r m : Result ℕ ReadError) → read_of s ≡ r → read_by_method s ≡ m → m ≡ r
+agree s (Ok w) m e k = sym k ∙ own_says s w (of_only s w e)
+agree s (Err BadLine) (Ok w) e k = absurd (of_none s w e (method_only s w k))
+agree s (Err BadLine) (Err BadLine) e k = refl
 
 -- the method gives what the definition says
 pub by_method : (s : List ℕ) → read_by_method s ≡ read_of s
@@ -261,8 +258,8 @@ by_method s = agree s (read_of s) (read_by_method s) refl refl
 
 -- what a text is read to says so, and nothing else is read
 
-pub reads_own : (w : ℕ) (f : Form) → w < 2 ^ 32 → decode_of w ≡ Is f → read_of (line_of f) ≡ Word w
+pub reads_own : (w : ℕ) (f : Form) → w < 2 ^ 32 → decode_of w ≡ Some f → read_of (line_of f) ≡ Ok w
 reads_own w f h e = sym (by_method (line_of f)) ∙ own_line f w e
 
-pub reads_only : (s : List ℕ) (w : ℕ) → read_of s ≡ Word w → Says s w
+pub reads_only : (s : List ℕ) (w : ℕ) → read_of s ≡ Ok w → Says s w
 reads_only s w h = of_only s w h

@@ -1,4 +1,5 @@
 -- Lengths of what is written, and rows of the templates. Assumes nothing.
+use Rattle.std.proofs.Common.{Option, Some, None}
 use mathlib.Core.Path.{◌≡◌, refl, ap, ◌∙◌}
 use mathlib.Core.Bool.{Bool, true, false, cond}
 use mathlib.Core.List.{List}
@@ -9,8 +10,6 @@ use lib.ListN.{length, take, drop}
 use lib.Seq.{sets, sets-eq, length-sets, take-append_seam}
 use Rattle.text.specs.Lines.{room_for}
 use Rattle.isa.specs.Decoding.{decode_of}
-use Rattle.isa.specs.declared.Decoded.{Decoded}
-use Rattle.isa.specs.declared.Decoded.TheVariants.{Is, Undefined}
 use Rattle.isa.specs.declared.Mode.{Mode}
 use Rattle.isa.specs.declared.Mode.TheVariants.{Post, Pre, Offset}
 use Rattle.isa.specs.declared.AddSubOp.{AddSubOp}
@@ -36,10 +35,10 @@ length_put : (l : List ℕ) (at : ℕ) (t : List ℕ) → length (put_at l at t)
 unfolding put_at
 length_put l at t = by_test (room_for l at t) _ _ (length l) (length-sets l at t) refl
 
-by_decoded : (d : Decoded) (l : List ℕ) (at : ℕ)
-    → length (elim d as (λ _. Written) [ Is f ↦ put_at l at (line_of f) | Undefined ↦ written l at UNDEFINED ]).bytes ≡ length l
-by_decoded (Is f) l at = length_put l at (line_of f)
-by_decoded Undefined l at = refl
+by_decoded : (d : Option Form) (l : List ℕ) (at : ℕ)
+    → length (elim d as (λ _. Written) [ Some f ↦ put_at l at (line_of f) | None ↦ written l at UNDEFINED ]).bytes ≡ length l
+by_decoded (Some f) l at = length_put l at (line_of f)
+by_decoded None l at = refl
 
 -- a listed word leaves the buffer's length
 pub length_listed : (l : List ℕ) (at word : ℕ) → length (listed_at l at word).bytes ≡ length l
@@ -100,22 +99,3 @@ line_of_lem f row g e k = rw (e, k)
 -- and as it stands in a buffer
 pub line_taken : (zs l : List ℕ) (n : ℕ) (f : Form) → n ≡ length (line_of f) → l ≡ sets zs 0 (line_of f) → n ≤ length zs → take n l ≡ line_of f
 line_taken zs l n f e k h = ap (λ (m : ℕ). take m l) e ∙ ap (take (length (line_of f))) k ∙ take_put zs (line_of f) (omega (arith, h, e))
-
--- no code is above 10
-
-small_by_test : (b : Bool) (x y : Written) → x.code ≤ 10 → y.code ≤ 10 → (cond b x y).code ≤ 10
-small_by_test true x y h k = h
-small_by_test false x y h k = k
-
-small_put : (l : List ℕ) (at : ℕ) (t : List ℕ) → (put_at l at t).code ≤ 10
-unfolding put_at
-small_put l at t = small_by_test (room_for l at t) _ _ (omega arith) (omega arith)
-
-small_decoded : (d : Decoded) (l : List ℕ) (at : ℕ)
-    → (elim d as (λ _. Written) [ Is f ↦ put_at l at (line_of f) | Undefined ↦ written l at UNDEFINED ]).code ≤ 10
-small_decoded (Is f) l at = small_put l at (line_of f)
-small_decoded Undefined l at = omega arith
-
-pub code_small : (l : List ℕ) (at word : ℕ) → (listed_at l at word).code ≤ 10
-unfolding listed_at
-code_small l at word = small_decoded (decode_of word) l at

@@ -1,7 +1,6 @@
 pub mod Codes
 pub mod Inside
 pub mod Lines
-pub mod Listings
 pub mod Reading
 pub mod RoundTrip
 pub mod Writing

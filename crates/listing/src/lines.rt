@@ -1,12 +1,12 @@
 // The line of a form: the row of its template, and its fields; and back.
-ghost use Rattle.std.specs.Prelude.{◌≡◌, ◌≤◌, length};
-ghost use Rattle.std.proofs.lemmas.List.Edits.{sets};
+ghost use Rattle.std.specs.Prelude.{◌≡◌};
 ghost use Rattle.listing.specs.Inside.Method.{add_sub_at, two_source_at, tag_store_at, mode_at, form_at};
 ghost use Rattle.listing.specs.Lines.{add_sub_row, two_source_row, shown_row, tag_store_row, mode_row, row_of, fields_of, line_of};
-ghost use Rattle.listing.specs.Lines.{fields as lineFields};
 
 use isa::{AddSubOp, Form, Mode, TagStoreOp, TwoSourceOp};
 use templates::Fields;
+
+// The rows are the templates' and the operations isa's, so that a conversion between them is a function here, and no `From`.
 
 fn add_sub_row(op: AddSubOp) -> usize
     ensures { result ≡ add_sub_row op }
@@ -43,7 +43,7 @@ fn tag_store_row(op: TagStoreOp) -> usize
 fn shown_row(amount: u64) -> usize
     ensures { result ≡ shown_row amount }
 {
-    if amount == 0 { 0 } else { 1 }
+    usize::from(amount != 0)
 }
 
 fn mode_row(mode: Mode, amount: u64) -> usize
@@ -57,90 +57,76 @@ fn mode_row(mode: Mode, amount: u64) -> usize
 }
 
 // The row of a form's template.
-fn row_of(f: Form) -> usize
-    ensures { result ≡ row_of f }
+fn row_of(form: Form) -> usize
+    ensures { result ≡ row_of form }
 {
-    match f {
-        Form::AddSub {
-            op,
-            d: _,
-            n: _,
-            amount: _,
-            offset: _,
-        } => add_sub_row(op),
-        Form::TwoSource {
-            op,
-            d: _,
-            n: _,
-            m: _,
-        } => two_source_row(op),
-        Form::Ldg { t: _, n: _, amount } => 6 + shown_row(amount),
+    match form {
+        Form::AddSub { op, .. } => add_sub_row(op),
+        Form::TwoSource { op, .. } => two_source_row(op),
+        Form::Ldg { amount, .. } => 6 + shown_row(amount),
         Form::TagStore {
             op,
             mode,
-            t: _,
-            n: _,
             amount,
+            ..
         } => tag_store_row(op) + mode_row(mode, amount),
-        Form::Stgp {
-            mode,
-            t: _,
-            t2: _,
-            n: _,
-            amount,
-        } => 24 + mode_row(mode, amount),
-    }
-}
-
-fn fields(first: u64, second: u64, third: u64, amount: u64, offset: u64) -> Fields
-    ensures { result ≡ lineFields first second third amount offset }
-{
-    Fields {
-        first,
-        second,
-        third,
-        amount,
-        offset,
+        Form::Stgp { mode, amount, .. } => 24 + mode_row(mode, amount),
     }
 }
 
 // The fields of a form's line.
-fn fields_of(f: Form) -> Fields
-    ensures { result ≡ fields_of f }
+fn fields_of(form: Form) -> Fields
+    ensures { result ≡ fields_of form }
 {
-    match f {
+    let none = Fields::default();
+    match form {
         Form::AddSub {
-            op: _,
             d,
             n,
             amount,
             offset,
-        } => fields(d, n, 0, amount, offset),
-        Form::TwoSource { op: _, d, n, m } => fields(d, n, m, 0, 0),
-        Form::Ldg { t, n, amount } => fields(t, n, 0, amount, 0),
-        Form::TagStore {
-            op: _,
-            mode: _,
-            t,
-            n,
+            ..
+        } => Fields {
+            first: d,
+            second: n,
             amount,
-        } => fields(t, n, 0, amount, 0),
+            offset,
+            ..none
+        },
+        Form::TwoSource { d, n, m, .. } => Fields {
+            first: d,
+            second: n,
+            third: m,
+            ..none
+        },
+        Form::Ldg { t, n, amount } | Form::TagStore { t, n, amount, .. } => Fields {
+            first: t,
+            second: n,
+            amount,
+            ..none
+        },
         Form::Stgp {
-            mode: _,
             t,
             t2,
             n,
             amount,
-        } => fields(t, t2, n, amount, 0),
+            ..
+        } => Fields {
+            first: t,
+            second: t2,
+            third: n,
+            amount,
+            ..none
+        },
     }
 }
 
-// Puts the line of a form at the start of line, and answers its length.
-pub(crate) fn put_form(line: &mut [u8], f: Form) -> usize
-    requires { length line.old ≡ 504 }
-    ensures { (result ≡ length (line_of f)) × (result ≤ 100) × (line.new ≡ sets line.old 0 (line_of f)) }
+// The line of a form, made in a room that holds any.
+pub(crate) fn line_of(form: Form, room: &mut [u8; 504]) -> &[u8]
+    ensures { result.now ≡ line_of form }
 {
-    templates::put_line(line, row_of(f), fields_of(f))
+    let n = templates::put_line(room, row_of(form), fields_of(form));
+    &room[..n]
 }
 
 // The form of a row, with the fields that were read.
@@ -148,92 +134,87 @@ pub(crate) fn put_form(line: &mut [u8], f: Form) -> usize
 fn add_sub_at(row: usize) -> AddSubOp
     ensures { result ≡ add_sub_at row }
 {
-    if row == 0 {
-        AddSubOp::Addg
-    } else {
-        AddSubOp::Subg
+    match row {
+        0 => AddSubOp::Addg,
+        _ => AddSubOp::Subg,
     }
 }
 
 fn two_source_at(row: usize) -> TwoSourceOp
     ensures { result ≡ two_source_at row }
 {
-    if row == 2 {
-        TwoSourceOp::Subp
-    } else if row == 3 {
-        TwoSourceOp::Subps
-    } else if row == 4 {
-        TwoSourceOp::Irg
-    } else {
-        TwoSourceOp::Gmi
+    match row {
+        2 => TwoSourceOp::Subp,
+        3 => TwoSourceOp::Subps,
+        4 => TwoSourceOp::Irg,
+        _ => TwoSourceOp::Gmi,
     }
 }
 
 fn tag_store_at(row: usize) -> TagStoreOp
     ensures { result ≡ tag_store_at row }
 {
-    if row < 12 {
-        TagStoreOp::Stg
-    } else if row < 16 {
-        TagStoreOp::Stzg
-    } else if row < 20 {
-        TagStoreOp::St2g
-    } else {
-        TagStoreOp::Stz2g
+    match row {
+        ..=11 => TagStoreOp::Stg,
+        12..=15 => TagStoreOp::Stzg,
+        16..=19 => TagStoreOp::St2g,
+        _ => TagStoreOp::Stz2g,
     }
 }
 
 fn mode_at(row: usize) -> Mode
     ensures { result ≡ mode_at row }
 {
-    if row % 4 == 0 {
-        Mode::Post
-    } else if row % 4 == 1 {
-        Mode::Pre
-    } else {
-        Mode::Offset
+    match row % 4 {
+        0 => Mode::Post,
+        1 => Mode::Pre,
+        _ => Mode::Offset,
     }
 }
 
-pub(crate) fn form_at(row: usize, g: Fields) -> Form
-    ensures { result ≡ form_at row g }
+#[tactic(auto, unfolding(crate::specs::Inside::Method::form_at))]
+pub(crate) fn form_at(row: usize, fields: Fields) -> Form
+    ensures { result ≡ form_at row fields }
 {
-    if row < 2 {
-        Form::AddSub {
+    let Fields {
+        first,
+        second,
+        third,
+        amount,
+        offset,
+    } = fields;
+    match row {
+        0..=1 => Form::AddSub {
             op: add_sub_at(row),
-            d: g.first,
-            n: g.second,
-            amount: g.amount,
-            offset: g.offset,
-        }
-    } else if row < 6 {
-        Form::TwoSource {
+            d: first,
+            n: second,
+            amount,
+            offset,
+        },
+        2..=5 => Form::TwoSource {
             op: two_source_at(row),
-            d: g.first,
-            n: g.second,
-            m: g.third,
-        }
-    } else if row < 8 {
-        Form::Ldg {
-            t: g.first,
-            n: g.second,
-            amount: g.amount,
-        }
-    } else if row < 24 {
-        Form::TagStore {
+            d: first,
+            n: second,
+            m: third,
+        },
+        6..=7 => Form::Ldg {
+            t: first,
+            n: second,
+            amount,
+        },
+        8..=23 => Form::TagStore {
             op: tag_store_at(row),
             mode: mode_at(row),
-            t: g.first,
-            n: g.second,
-            amount: g.amount,
-        }
-    } else {
-        Form::Stgp {
+            t: first,
+            n: second,
+            amount,
+        },
+        _ => Form::Stgp {
             mode: mode_at(row),
-            t: g.first,
-            t2: g.second,
-            n: g.third,
-            amount: g.amount,
-        }
+            t: first,
+            t2: second,
+            n: third,
+            amount,
+        },
     }
 }

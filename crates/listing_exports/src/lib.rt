@@ -12,8 +12,11 @@ pub extern "C" fn mte_list_word(out: &mut [u8], at: usize, word: u32, next: &mut
     ensures { written out.new next.new result ≡ listed_at out.old at word }
 {
     let listed = listing::list_at(out, at, word);
-    *next = listed.next as u64;
-    listed.code as u32
+    *next = listed.unwrap_or(at) as u64;
+    match listed {
+        Ok(_) => 0,
+        Err(why) => u32::from(why),
+    }
 }
 
 // Leaves the word that a text is read to in word, 0 with BADLINE, and answers the code.
@@ -22,6 +25,9 @@ pub extern "C" fn mte_read_line(text: &[u8], word: &mut u32) -> u32
     ensures { (result ≡ read_code (read_of text.now)) × (word.new ≡ read_word (read_of text.now)) }
 {
     let read = listing::read_line(text);
-    *word = read.word();
-    read.number()
+    *word = read.unwrap_or(0);
+    match read {
+        Ok(_) => 0,
+        Err(why) => u32::from(why),
+    }
 }

@@ -10,7 +10,7 @@ ghost use Rattle.templates.specs.Templates.{template_at, piece_of, register_of, 
 pub mod reader;
 
 // The registers in the order in which a line names them, the amount modulo 2^64, and the tag offset.
-#[derive(Clone, Copy, Debug, PartialEq, Eq)]
+#[derive(Clone, Copy, Debug, Default, PartialEq, Eq)]
 pub struct Fields {
     pub first: u64,
     pub second: u64,

@@ -158,13 +158,7 @@ fn read_by(s: &[u8], template: &[u8]) -> Option<Fields>
     ensures { result ≡ read_by template.now s.now no_fields }
 {
     let mut rest = s;
-    let mut fields = Fields {
-        first: 0,
-        second: 0,
-        third: 0,
-        amount: 0,
-        offset: 0,
-    };
+    let mut fields = Fields::default();
     for &l in template {
         let turn = read_on(rest, l, fields)?;
         rest = turn.rest;

@@ -1,5 +1,5 @@
 -- How a text is read: by the form that it is taken for, whose line is then compared. No notion of document 02.
-use Rattle.std.specs.Prelude.{ℕ, ◌%◌, cond, List, leb, ltb, eqb, length}
+use Rattle.std.specs.Prelude.{ℕ, ◌%◌, cond, List, ltb, eqb, Option, Some, None, Result, Ok, Err}
 use Rattle.isa.specs.Encoding.{encode_of}
 use Rattle.isa.specs.declared.Mode.{Mode}
 use Rattle.isa.specs.declared.Mode.TheVariants.{Post, Pre, Offset}
@@ -11,17 +11,14 @@ use Rattle.isa.specs.declared.TagStoreOp.{TagStoreOp}
 use Rattle.isa.specs.declared.TagStoreOp.TheVariants.{Stg, Stzg, St2g, Stz2g}
 use Rattle.isa.specs.declared.Form.{Form}
 use Rattle.isa.specs.declared.Form.TheVariants.{AddSub, TwoSource, Ldg, TagStore, Stgp}
-use Rattle.isa.specs.declared.Encoded.{Encoded}
-use Rattle.isa.specs.declared.Encoded.TheVariants.{Word as Encodes, Field}
 use Rattle.templates.specs.Inside.Matching.{row_from}
 use Rattle.templates.specs.Templates.{templates}
 use Rattle.templates.specs.declared.Fields.{Fields}
-use Rattle.templates.specs.declared.Row.{Row}
-use Rattle.templates.specs.declared.Row.TheVariants.{Reads, Nothing}
+use Rattle.templates.specs.declared.reader.Reading.{Reading}
 use Rattle.listing.specs.Lines.{line_of}
 use Rattle.listing.specs.Reading.{same_text}
-use Rattle.listing.specs.declared.Read.{Read}
-use Rattle.listing.specs.declared.Read.TheVariants.{Word, BadLine}
+use Rattle.listing.specs.declared.ReadError.{ReadError}
+use Rattle.listing.specs.declared.ReadError.TheVariants.{BadLine}
 
 -- the form of a row, with the fields that were read
 
@@ -45,17 +42,17 @@ form_at row g =
     (cond (ltb row 24) (TagStore (tag_store_at row) (mode_at row) g.first g.second g.amount)
     (Stgp (mode_at row) g.first g.second g.third g.amount))))
 
-abbrev pub encoded_read : Encoded → Read
-encoded_read (Encodes w) = Word w
-encoded_read Field = BadLine
+abbrev pub encoded_read : Option ℕ → Result ℕ ReadError
+encoded_read (Some w) = Ok w
+encoded_read None = Err BadLine
 
 -- the word of a form, if its line is the text
-unfoldable pub read_form : List ℕ → Form → Read
-read_form s f = cond (same_text (line_of f) s) (encoded_read (encode_of f)) BadLine
+unfoldable pub read_form : List ℕ → Form → Result ℕ ReadError
+read_form s f = cond (same_text (line_of f) s) (encoded_read (encode_of f)) (Err BadLine)
 
-abbrev pub read_row : List ℕ → Row → Read
-read_row s (Reads row g) = read_form s (form_at row g)
-read_row s Nothing = BadLine
+abbrev pub read_row : List ℕ → Option Reading → Result ℕ ReadError
+read_row s (Some read) = read_form s (form_at read.row read.fields)
+read_row s None = Err BadLine
 
-unfoldable pub read_by_method : List ℕ → Read
-read_by_method s = cond (leb (length s) 100) (read_row s (row_from templates s 0)) BadLine
+unfoldable pub read_by_method : List ℕ → Result ℕ ReadError
+read_by_method s = read_row s (row_from templates s 0)
