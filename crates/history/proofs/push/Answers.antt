@@ -1,9 +1,9 @@
--- The slots with the record written into its part are the slots with the record put in at its place.
-use Rattle.std.proofs.Common.{◌≡◌, ◌-◌, ◌*◌, length, take, drop, ◌++◌}
-use Rattle.memory.proofs.Lists.{back_part}
-use Rattle.history.specs.Inside.Slots.{history_of, slot_words}
+-- The words with the record copied into its slot are the words with the record put in at its place.
+use Rattle.std.proofs.Common.{◌≡◌, ◌+◌, ◌-◌, ◌*◌, arith}
+use borrow.Rule.Slice.PartMut.{put_mid}
+use Rattle.history.specs.Inside.Slots.{history_of}
 use Rattle.history.specs.Ring.{pushed}
-use Rattle.history.proofs.Slots.{pushed_either}
+use Rattle.history.proofs.Slots.{pushed_either, slot_written}
 use Rattle.history.proofs.push.Goals as goal
 
 pub returns-then-slots-eq0 : goal.returns-then-slots-eq0
@@ -14,9 +14,8 @@ pub returns : goal.returns
 returns c =
     let a = c.args in
     let l = a.history.now in
-    let at = 8 * a.cursor.next in
-    let ys = c.write.new.part in
-    let r = slot_words a.word a.value a.first a.a a.b a.c a.d in
-    pushed_either (λ h. history_of (take at l ++ (ys ++ drop (length l - at) (drop at l))) c.advance.result ≡ h) r
-    (history_of l a.cursor) (λ none. absurd (c.if-slots-eq0.false none))
-    (λ some. λ i. history_of (back_part at l ys r c.write.ensures i) (c.advance.ensures i))
+    let at = 8 * a.cursor.now.next in
+    let ys = c.copy_from_slice.new.self in
+    pushed_either (λ h. history_of (put_mid at (at + 8 - at) l ys) c.advance.result ≡ h) a.part
+    (history_of l a.cursor.now) (λ none. absurd (c.if-slots-eq0.false none))
+    (λ some. λ i. history_of (slot_written l ys a.part at c.copy_from_slice.ensures.after (omega (arith, c.well_formed)) (omega arith) i) (c.advance.ensures i))
