@@ -140,12 +140,11 @@ old_granules g e k f small = go e.granules e.saved refl refl
     go (suc (suc zero)) false p q =
         let u = k.unsaved q in
         (two e.first (tag_at e 0) (tag_at e 1), omega arith, cc)
-    go (suc (suc zero)) true p q =
-        (
-          two_saved e.first (tag_at e 0) (tag_at e 1) (data_at e 0) (data_at e 1) (data_at e 2) (data_at e 3),
-          omega (arith, small 0, small 1, small 2, small 3),
-          cc,
-        )
+    go (suc (suc zero)) true p q = (
+      two_saved e.first (tag_at e 0) (tag_at e 1) (data_at e 0) (data_at e 1) (data_at e 2) (data_at e 3),
+      omega (arith, small 0, small 1, small 2, small 3),
+      cc,
+    )
     go (suc (suc (suc n))) s p q = absurd (omega arith)
 
 data_small : (r : List ℕ) → EightWords r → (i : ℕ) → data_at (entry_in r) i < 2 ^ 64

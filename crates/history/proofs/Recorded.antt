@@ -5,6 +5,7 @@ use mathlib.Core.Bool.{Bool, true, false, cond, ◌&&◌, ◌||◌, false≢true
 use mathlib.Core.List.{List, []}
 use mathlib.Core.Path.{◌≡◌, refl, ap, sym, ◌∙◌}
 use native.Mathlib.Omega.{arith}
+use Rattle.std.proofs.Common.{Option, Some, None}
 use lib.Dec.{eqb, ltb}
 use lib.ListN.{length, drop, get_or, set, length-replicate}
 use lib.Seq.{sets, length-sets, set-set, set-get_or}
@@ -15,8 +16,6 @@ use Rattle.isa.specs.declared.TwoSourceOp.TheVariants.{Subp, Subps, Irg, Gmi}
 use Rattle.isa.specs.declared.TagStoreOp.TheVariants.{Stg, Stzg, St2g, Stz2g}
 use Rattle.isa.specs.declared.Form.{Form}
 use Rattle.isa.specs.declared.Form.TheVariants.{AddSub, TwoSource, Ldg, TagStore, Stgp}
-use Rattle.isa.specs.declared.Decoded.{Decoded}
-use Rattle.isa.specs.declared.Decoded.TheVariants.{Is, Undefined}
 use Rattle.isa.specs.Decoding.{decode_of}
 use Rattle.isa.proofs.RoundTrip.{decoded_fits}
 use Rattle.memory.specs.Stores.{saved_bytes, saved_tags}
@@ -25,13 +24,13 @@ use Rattle.machine.specs.State.{State, state_of, Typed}
 use Rattle.machine.specs.Setup.{sound}
 use Rattle.machine.specs.Registers.{x_or_sp, written}
 use Rattle.machine.specs.Codes.{lowest, is_done}
-use Rattle.machine.proofs.Setup.{state_sized, state_status}
+use Rattle.machine.proofs.Rules.{state_sized, state_status}
 use Rattle.instructions.specs.WordOutcomes.{code_of, carried_out, word_outcome}
 use Rattle.instructions.specs.Inside.Effects.{Change, kept, zeroed, pair, Effect, new_bytes, new_tags, writes, applied, Within, form_effect}
 use Rattle.instructions.proofs.Outcomes.{form_outcome}
 use Rattle.instructions.proofs.Within.{form_within}
 use Rattle.history.specs.declared.Entry.{Entry}
-use Rattle.history.specs.Records.{tag_at, data_at, words_of, entry_in}
+use Rattle.history.specs.Records.{data_at, words_of, entry_in}
 use Rattle.history.specs.BadRecords.{not_zero, value_not_zero, tags_not_zero, data_not_zero, data_of_none, malformed}
 use Rattle.history.specs.Recording.{old_word, entry_for, entry_of, record_of, restored}
 use Rattle.history.specs.Inside.Slots.{entry_on}
@@ -190,9 +189,9 @@ pub word_undone : (w : ℕ) (s : State) → sound s ≡ true → Typed s → is_
 unfolding word_outcome lowest record_of
 word_undone w s ok typed = go (decode_of w) refl
   where
-    go : (d : Decoded) → decode_of w ≡ d → is_done (code_of true d s) ≡ true
+    go : (d : Option Form) → decode_of w ≡ d → is_done (code_of true d s) ≡ true
         → Restores (record_of d s) (cond (is_done (code_of true d s)) (carried_out d s) s) s
-    go (Is f) p k =
+    go (Some f) p k =
         rw (k, ← (form_outcome s f ok k), form_entry f s)
         (effect_restores (form_effect f s) s ok typed (form_within s ok f (decoded_fits w f p) k))
-    go Undefined p k = absurd (false≢true k)
+    go None p k = absurd (false≢true k)

@@ -103,3 +103,7 @@ rules g r h =
         inside = ltb-false g (e.first + e.granules) p₅.1;
       },
     )
+
+-- the granules of an accepted record are inside
+pub accepted : (g : ℕ) (r : List ℕ) (e : Entry) → malformed g r ≡ false → e ≡ entry_in r → (e.granules ≤ 2) × (e.first + e.granules ≤ g)
+accepted g r e h p = let k = (rules g r h).1 in rw p (k.granules, k.inside)

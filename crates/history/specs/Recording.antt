@@ -1,5 +1,5 @@
 -- What an accepted word records (document 01, "History", second paragraph), and what a record restores.
-use Rattle.std.specs.Prelude.{ℕ, ◌+◌, ◌*◌, Bool, true, false, cond, ◌&&◌, List, [], ◌∷◌, ltb, drop, get_or}
+use Rattle.std.specs.Prelude.{ℕ, ◌+◌, ◌*◌, Bool, true, false, cond, ◌&&◌, List, [], ◌∷◌, ltb, drop, get_or, Option, Some, None}
 use Rattle.std.proofs.lemmas.List.Edits.{sets}
 use Rattle.bits.specs.LittleEndian.{word_from}
 use Rattle.isa.specs.declared.TwoSourceOp.{TwoSourceOp}
@@ -8,8 +8,6 @@ use Rattle.isa.specs.declared.TagStoreOp.{TagStoreOp}
 use Rattle.isa.specs.declared.TagStoreOp.TheVariants.{Stg, Stzg, St2g, Stz2g}
 use Rattle.isa.specs.declared.Form.{Form}
 use Rattle.isa.specs.declared.Form.TheVariants.{AddSub, TwoSource, Ldg, TagStore, Stgp}
-use Rattle.isa.specs.declared.Decoded.{Decoded}
-use Rattle.isa.specs.declared.Decoded.TheVariants.{Is, Undefined}
 use Rattle.memory.specs.Locations.{index_of}
 use Rattle.memory.specs.Stores.{saved_bytes, saved_tags}
 use Rattle.machine.specs.State.{State, state_of}
@@ -74,8 +72,8 @@ entry_for r n i saves s =
       value = x_or_sp s.registers.x r;
       first = i;
       «data» =
-        old_word saves s.bytes (16 * i) ∷ old_word saves s.bytes (16 * i + 8) ∷ old_word (saves && ltb 1 n) s.bytes (16 * i + 16)
-        ∷ old_word (saves && ltb 1 n) s.bytes (16 * i + 24) ∷ [];
+          old_word saves s.bytes (16 * i) ∷ old_word saves s.bytes (16 * i + 8) ∷ old_word (saves && ltb 1 n) s.bytes (16 * i + 16)
+          ∷ old_word (saves && ltb 1 n) s.bytes (16 * i + 24) ∷ [];
     }
 
 abbrev pub entry_of : Form → State → Entry
@@ -84,9 +82,9 @@ entry_of f s =
     entry_for (target f) (granules_recorded a) (first_recorded s.settings.base a) (writes_data f) s
 
 -- the record of a word that is accepted on a state
-unfoldable pub record_of : Decoded → State → List ℕ
-record_of (Is f) s = words_of (entry_of f s)
-record_of Undefined s = []
+unfoldable pub record_of : Option Form → State → List ℕ
+record_of (Some f) s = words_of (entry_of f s)
+record_of None s = []
 
 -- a state with what an entry holds put back: register, NZCV and RGSR, tag bytes whole, data
 unfoldable pub restored : Entry → State → State

@@ -30,11 +30,11 @@ entry_in r =
       saved = eqb (bits_at (get_or r 0 0) 10 1) 1;
       tags = bits_at (get_or r 0 0) 16 8 ∷ bits_at (get_or r 0 0) 24 8 ∷ [];
       status =
-        record {
-          nzcv = bits_at (get_or r 0 0) 32 4;
-          rgsr = bits_at (get_or r 0 0) 36 4;
-          seed = bits_at (get_or r 0 0) 40 16;
-        };
+          record {
+            nzcv = bits_at (get_or r 0 0) 32 4;
+            rgsr = bits_at (get_or r 0 0) 36 4;
+            seed = bits_at (get_or r 0 0) 40 16;
+          };
       value = get_or r 1 0;
       first = get_or r 2 0;
       «data» = get_or r 3 0 ∷ get_or r 4 0 ∷ get_or r 5 0 ∷ get_or r 6 0 ∷ [];

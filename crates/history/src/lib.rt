@@ -3,19 +3,24 @@
 #![tactic(auto)]
 
 ghost use Rattle.std.specs.Prelude.{false, ◌≡◌, ◌+◌, ◌*◌, ◌%◌, ◌<◌, ◌≤◌, min, length};
+ghost use Rattle.machine.specs.Loans.{SameLoans};
 ghost use Rattle.machine.specs.Setup.{slots_of};
-ghost use Rattle.history.specs.Inside.Slots.{CursorPlaced, history_of};
+ghost use Rattle.machine.specs.State.{with_memory};
+ghost use Rattle.history.specs.BadRecords.{malformed};
+ghost use Rattle.history.specs.Inside.Slots.{CursorPlaced, data_restored, history_of};
+ghost use Rattle.history.specs.Recording.{restored};
+ghost use Rattle.history.specs.Records.{entry_in};
 ghost use Rattle.history.specs.Ring.{advanced, previous, pushed, retreated};
 
-use machine::{Cursor, Status};
 pub use bad_records::is_malformed;
+use machine::{Cursor, Setup, Status};
 
 mod bad_records;
 mod records;
 
 // What a record holds: the register with its old value, the granules with their old tags and their old data, and the old status. Register 32 is none, and
 // what is not in use is zero.
-#[derive(Clone, Copy)]
+#[derive(Clone, Copy, Debug, PartialEq, Eq)]
 pub struct Entry {
     pub register: u64,
     pub granules: usize,
@@ -76,6 +81,7 @@ pub fn retreat(cursor: Cursor, slots: usize) -> Cursor
 }
 
 // Writes a record into the slot at the cursor, if there is one, and moves the cursor on.
+#[tactic(auto, using(crate::proofs::Slots::slot_written), unfolding(crate::specs::Ring::pushed))]
 pub fn push(history: &mut [u64], cursor: &mut Cursor, part: [u64; 8])
     requires { CursorPlaced (slots_of (length history.old)) cursor.old }
     ensures { history_of history.new cursor.new ≡ pushed part (history_of history.old cursor.old) }
@@ -87,4 +93,35 @@ pub fn push(history: &mut [u64], cursor: &mut Cursor, part: [u64; 8])
     let at = 8 * cursor.next;
     history[at..at + 8].copy_from_slice(&part);
     *cursor = advance(*cursor, slots);
+}
+
+// Puts back the data that a record holds, if it holds any.
+#[tactic(auto, using(crate::proofs::Restored::saved_data_back))]
+fn restore_data(bytes: &mut [u8], entry: Entry)
+    requires granules_bound { entry.granules ≤ 2 }
+    requires granules_in_bounds { 16 * (entry.first + entry.granules) ≤ length bytes.old }
+    ensures { bytes.new ≡ data_restored entry bytes.old }
+{
+    if entry.saved {
+        let at = 16 * entry.first;
+        memory::restore(&mut bytes[at..], entry.granules, entry.data);
+    }
+}
+
+// Puts back what a record holds: data, tags, the register and the status.
+#[tactic(auto, using(crate::proofs::Rules::accepted), unfolding(crate::specs::Recording::restored, crate::specs::Records::entry_in))]
+pub fn restore(setup: &mut Setup<'_>, part: &[u64; 8])
+    requires part_value { malformed (length setup.old.tags.now) part.now ≡ false }
+    requires bytes_len { length setup.old.bytes.now ≡ 16 * length setup.old.tags.now }
+    ensures loans { SameLoans setup.old setup.new }
+    ensures state { with_memory setup.new.machine setup.new.bytes.now setup.new.tags.now
+        ≡ restored (entry_in part.now) (with_memory setup.old.machine setup.old.bytes.now setup.old.tags.now) }
+    ensures cursor { setup.new.machine.cursor ≡ setup.old.machine.cursor }
+{
+    let entry = Entry::of_words(part);
+    restore_data(setup.bytes, entry);
+    memory::restore_tags(setup.tags, entry.first, entry.granules, entry.tags);
+    let registers = &mut setup.machine.registers;
+    registers.write(entry.register, entry.value);
+    registers.status = entry.status;
 }
