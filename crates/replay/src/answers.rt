@@ -33,14 +33,14 @@ where
     for (index, item) in items.iter().enumerate() {
         let value = u64::from(*item);
         if value != 0 {
-            writer.put(&kind, &[index as u64, value]);
+            writer.put(kind, &[index as u64, value]);
         }
     }
 }
 
 pub(crate) fn put_state(writer: &mut Writer<'_>, player: &Player<'_>) {
     for (kind, number) in front(player) {
-        writer.put(&kind, &[number]);
+        writer.put(kind, &[number]);
     }
     put_items(writer, SettingKind::X, &player.machine.registers.x);
     put_items(writer, SettingKind::Tag, player.tags.used());
@@ -65,29 +65,29 @@ fn put_form(writer: &mut Writer<'_>, form: Form) {
             n,
             amount,
             offset,
-        } => writer.put(&FormKind::AddSub(op), &[d, n, amount, offset]),
-        Form::TwoSource { op, d, n, m } => writer.put(&FormKind::TwoSource(op), &[d, n, m]),
-        Form::Ldg { t, n, amount } => writer.put(&FormKind::Ldg, &[t, n, amount]),
+        } => writer.put(FormKind::AddSub(op), &[d, n, amount, offset]),
+        Form::TwoSource { op, d, n, m } => writer.put(FormKind::TwoSource(op), &[d, n, m]),
+        Form::Ldg { t, n, amount } => writer.put(FormKind::Ldg, &[t, n, amount]),
         Form::TagStore {
             op,
             mode,
             t,
             n,
             amount,
-        } => writer.put(&FormKind::TagStore(op), &[mode_number(mode), t, n, amount]),
+        } => writer.put(FormKind::TagStore(op), &[mode_number(mode), t, n, amount]),
         Form::Stgp {
             mode,
             t,
             t2,
             n,
             amount,
-        } => writer.put(&FormKind::Stgp, &[mode_number(mode), t, t2, n, amount]),
+        } => writer.put(FormKind::Stgp, &[mode_number(mode), t, t2, n, amount]),
     }
 }
 
 fn put_decoded(writer: &mut Writer<'_>, word: u32) {
     let decoded = isa::decode(word);
-    writer.put(&AnswerKind::Decoded, &[u64::from(decoded.number())]);
+    writer.put(AnswerKind::Decoded, &[u64::from(decoded.number())]);
     if let Decoded::Is(form) = decoded {
         put_form(writer, form);
     }
@@ -97,7 +97,7 @@ fn put_encoded(writer: &mut Writer<'_>, form: Form) {
     let encoded = isa::encode(form);
     let code = u64::from(encoded.number());
     let word = u64::from(encoded.word());
-    writer.put(&AnswerKind::Encoded, &[code, word]);
+    writer.put(AnswerKind::Encoded, &[code, word]);
 }
 
 // Puts where the part that a pointer reaches starts in the data, its length and its checksum. An empty part starts at 0.
@@ -110,7 +110,7 @@ fn put_reached(writer: &mut Writer<'_>, player: &Player<'_>, pointer: u64) {
         (pointer % 0x100_0000_0000_0000).wrapping_sub(base)
     };
     let sum = checksum::with_bytes(0, part);
-    writer.put(&AnswerKind::Reached, &[start, part.len() as u64, sum]);
+    writer.put(AnswerKind::Reached, &[start, part.len() as u64, sum]);
 }
 
 pub(crate) fn put_answer(writer: &mut Writer<'_>, player: &Player<'_>, question: Question) {
@@ -124,12 +124,12 @@ pub(crate) fn put_answer(writer: &mut Writer<'_>, player: &Player<'_>, question:
             mask,
         } => {
             let tag = tag::choose(start % 16, offset, mask);
-            writer.put(&AnswerKind::Chosen, &[u64::from(tag)]);
+            writer.put(AnswerKind::Chosen, &[u64::from(tag)]);
         },
         Question::Draw(seed) => {
             let drawn = tag::draw(seed);
             writer.put(
-                &AnswerKind::Drawn,
+                AnswerKind::Drawn,
                 &[u64::from(drawn.bits), u64::from(drawn.seed)],
             );
         },

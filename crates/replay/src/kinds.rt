@@ -9,7 +9,7 @@ pub(crate) struct Shape {
 }
 
 pub(crate) trait Kind {
-    fn shape(&self) -> Shape;
+    fn shape(self) -> Shape;
 }
 
 fn row(key: &'static [u8], widths: &'static [usize]) -> Shape {
@@ -57,7 +57,7 @@ pub(crate) const SETTINGS: [SettingKind; 16] = [
 ];
 
 impl Kind for SettingKind {
-    fn shape(&self) -> Shape {
+    fn shape(self) -> Shape {
         match self {
             SettingKind::Fresh => row(b"fresh", &[16]),
             SettingKind::Access => row(b"access", &[1]),
@@ -110,7 +110,7 @@ pub(crate) const REQUESTS: [RequestKind; 11] = [
 ];
 
 impl Kind for RequestKind {
-    fn shape(&self) -> Shape {
+    fn shape(self) -> Shape {
         match self {
             RequestKind::Word => row(b"word", &[8]),
             RequestKind::Run => row(b"run", &[8]),
@@ -153,7 +153,7 @@ pub(crate) const FORMS: [FormKind; 12] = [
 ];
 
 impl Kind for FormKind {
-    fn shape(&self) -> Shape {
+    fn shape(self) -> Shape {
         match self {
             FormKind::AddSub(AddSubOp::Addg) => row(b"addg", &[16, 16, 16, 16]),
             FormKind::AddSub(AddSubOp::Subg) => row(b"subg", &[16, 16, 16, 16]),
@@ -186,7 +186,7 @@ pub(crate) enum AnswerKind {
 }
 
 impl Kind for AnswerKind {
-    fn shape(&self) -> Shape {
+    fn shape(self) -> Shape {
         match self {
             AnswerKind::Code => row(b"code", &[1]),
             AnswerKind::Ran => row(b"ran", &[1, 8]),

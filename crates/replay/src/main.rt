@@ -34,7 +34,7 @@ fn first_wrong_line(script: &[u8]) -> Option<usize> {
 // Writes the number of a wrong line, or 0 for a script that is too long.
 fn write_bad(rt: &HostRuntime, number: usize) {
     let mut writer = Writer::new(rt);
-    writer.put(&AnswerKind::Bad, &[number as u64]);
+    writer.put(AnswerKind::Bad, &[number as u64]);
     writer.flush();
 }
 

@@ -1,4 +1,5 @@
-// Memories of a fixed size.
+// Memories of a fixed size. The reader lets no count and no index through that is out of range; without `min` that would have to be
+// proved.
 
 // A lent slice with how many of its items are in use.
 #[derive(Drop)]
@@ -29,11 +30,11 @@ impl<'a, T: Copy> Memory<'a, T> {
         self.end = self.end.max(count);
     }
 
-    // Stores an item. The reader lets no index through that is out of range.
+    // Stores an item.
     pub(crate) fn store(&mut self, index: usize, item: T) {
-        if let Some(place) = self.items.get_mut(index) {
-            *place = item;
-            self.end = self.end.max(index.saturating_add(1));
+        if index < self.items.len() {
+            self.items[index] = item;
+            self.end = self.end.max(index + 1);
         }
     }
 
@@ -44,9 +45,10 @@ impl<'a, T: Copy> Memory<'a, T> {
 
     // Adds an item. There is room for it: a list of calls that has none is played before the call.
     pub(crate) fn push(&mut self, item: T) {
-        let index = self.count;
-        self.store(index, item);
-        self.resize(index.saturating_add(1));
+        if self.count < self.items.len() {
+            self.items[self.count] = item;
+            self.resize(self.count + 1);
+        }
     }
 
     pub(crate) fn extend(&mut self, items: &[T]) {

@@ -22,8 +22,8 @@ pub(crate) struct Playing<'a> {
 fn put_code(writer: &mut Writer<'_>, code: u32, ran: Option<usize>) {
     let code = u64::from(code);
     match ran {
-        Some(count) => writer.put(&AnswerKind::Ran, &[code, count as u64]),
-        None => writer.put(&AnswerKind::Code, &[code]),
+        Some(count) => writer.put(AnswerKind::Ran, &[code, count as u64]),
+        None => writer.put(AnswerKind::Code, &[code]),
     }
 }
 
@@ -68,7 +68,7 @@ impl<'a> Playing<'a> {
             &mut counts[..self.lent.counts.min(MOST_CALLS)],
         );
         self.writer.put(
-            &AnswerKind::Played,
+            AnswerKind::Played,
             &[u64::from(code.number()), count as u64],
         );
         let answers = self.calls.calls().iter().zip(&codes).zip(&counts);

@@ -19,7 +19,7 @@ fn number(text: &[u8], separator: u8, width: usize) -> Option<(u64, &[u8])> {
 }
 
 // The numbers of a line of a kind, with zeros behind them.
-fn numbers(text: &[u8], kind: &impl Kind) -> Option<[u64; 5]> {
+fn numbers(text: &[u8], kind: impl Kind) -> Option<[u64; 5]> {
     let shape = kind.shape();
     let mut rest = text.strip_prefix(shape.key)?;
     let mut numbers = [0; 5];
@@ -37,7 +37,7 @@ fn numbers(text: &[u8], kind: &impl Kind) -> Option<[u64; 5]> {
 fn find<K: Kind + Copy>(kinds: &[K], text: &[u8]) -> Option<(K, [u64; 5])> {
     kinds
         .iter()
-        .find_map(|kind| numbers(text, kind).map(|found| (*kind, found)))
+        .find_map(|kind| numbers(text, *kind).map(|found| (*kind, found)))
 }
 
 fn switch(v: u64) -> Option<bool> {
@@ -167,6 +167,6 @@ pub(crate) fn read(line: &[u8]) -> Option<Line> {
         _ => setting(text)
             .map(Line::Set)
             .or_else(|| request(text))
-            .or_else(|| form(text).map(|form| Line::Ask(Question::Encode(form)))),
+            .or_else(|| form(text).map(Question::Encode).map(Line::Ask)),
     }
 }

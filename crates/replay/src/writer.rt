@@ -58,7 +58,7 @@ impl<'a> Writer<'a> {
     }
 
     // Puts a line: the key and the numbers of a kind of line.
-    pub(crate) fn put(&mut self, kind: &impl Kind, numbers: &[u64]) {
+    pub(crate) fn put(&mut self, kind: impl Kind, numbers: &[u64]) {
         let shape = kind.shape();
         self.put_bytes(shape.key);
         let mut separator = b'=';
