@@ -1,107 +1,202 @@
-// The kinds of lines.
+// The kinds of lines, and what each of them looks like.
+use isa::{AddSubOp, TagStoreOp, TwoSourceOp};
 
-// A wrong line. In a script that is played only its end is one.
-pub(crate) const WRONG: u64 = 0;
+// What a kind of line looks like: its key, and how many digits each of its numbers has.
+#[derive(Clone, Copy)]
+pub(crate) struct Shape {
+    pub(crate) key: &'static [u8],
+    pub(crate) widths: &'static [usize],
+}
 
-// An empty line or a comment.
-pub(crate) const PASSED_OVER: u64 = 1;
+pub(crate) trait Kind {
+    fn shape(self) -> Shape;
+}
 
-// The setup. The state is written in the order of the first eleven.
-pub(crate) const FRESH: u64 = 2;
+fn row(key: &'static [u8], widths: &'static [usize]) -> Shape {
+    Shape { key, widths }
+}
 
-pub(crate) const ACCESS: u64 = 3;
+// What a script sets. The state is written as lines of these kinds.
+#[derive(Clone, Copy)]
+pub(crate) enum SettingKind {
+    Fresh,
+    Access,
+    Exclude,
+    Nzcv,
+    Rgsr,
+    Seed,
+    Next,
+    Held,
+    Tags,
+    Data,
+    History,
+    X,
+    Tag,
+    Byte,
+    Log,
+    List,
+}
 
-pub(crate) const EXCLUDE: u64 = 4;
+pub(crate) const SETTINGS: [SettingKind; 16] = [
+    SettingKind::Fresh,
+    SettingKind::Access,
+    SettingKind::Exclude,
+    SettingKind::Nzcv,
+    SettingKind::Rgsr,
+    SettingKind::Seed,
+    SettingKind::Next,
+    SettingKind::Held,
+    SettingKind::Tags,
+    SettingKind::Data,
+    SettingKind::History,
+    SettingKind::X,
+    SettingKind::Tag,
+    SettingKind::Byte,
+    SettingKind::Log,
+    SettingKind::List,
+];
 
-pub(crate) const NZCV: u64 = 5;
+impl Kind for SettingKind {
+    fn shape(self) -> Shape {
+        match self {
+            SettingKind::Fresh => row(b"fresh", &[16]),
+            SettingKind::Access => row(b"access", &[1]),
+            SettingKind::Exclude => row(b"exclude", &[4]),
+            SettingKind::Nzcv => row(b"nzcv", &[2]),
+            SettingKind::Rgsr => row(b"rgsr", &[2]),
+            SettingKind::Seed => row(b"seed", &[4]),
+            SettingKind::Next => row(b"next", &[16]),
+            SettingKind::Held => row(b"held", &[16]),
+            SettingKind::Tags => row(b"tags", &[8]),
+            SettingKind::Data => row(b"data", &[8]),
+            SettingKind::History => row(b"history", &[8]),
+            SettingKind::X => row(b"x", &[2, 16]),
+            SettingKind::Tag => row(b"tag", &[8, 2]),
+            SettingKind::Byte => row(b"byte", &[8, 2]),
+            SettingKind::Log => row(b"log", &[8, 16]),
+            SettingKind::List => row(b"list", &[8, 8]),
+        }
+    }
+}
 
-pub(crate) const RGSR: u64 = 6;
+// What a script asks for.
+#[derive(Clone, Copy)]
+pub(crate) enum RequestKind {
+    Word,
+    Run,
+    Back,
+    Dump,
+    Play,
+    Lend,
+    Show,
+    Decode,
+    Choose,
+    Draw,
+    Reach,
+}
 
-pub(crate) const SEED: u64 = 7;
+pub(crate) const REQUESTS: [RequestKind; 11] = [
+    RequestKind::Word,
+    RequestKind::Run,
+    RequestKind::Back,
+    RequestKind::Dump,
+    RequestKind::Play,
+    RequestKind::Lend,
+    RequestKind::Show,
+    RequestKind::Decode,
+    RequestKind::Choose,
+    RequestKind::Draw,
+    RequestKind::Reach,
+];
 
-pub(crate) const NEXT: u64 = 8;
+impl Kind for RequestKind {
+    fn shape(self) -> Shape {
+        match self {
+            RequestKind::Word => row(b"word", &[8]),
+            RequestKind::Run => row(b"run", &[8]),
+            RequestKind::Back => row(b"back", &[]),
+            RequestKind::Dump => row(b"dump", &[1]),
+            RequestKind::Play => row(b"play", &[1]),
+            RequestKind::Lend => row(b"lend", &[8, 8, 8]),
+            RequestKind::Show => row(b"show", &[]),
+            RequestKind::Decode => row(b"decode", &[8]),
+            RequestKind::Choose => row(b"choose", &[1, 1, 4]),
+            RequestKind::Draw => row(b"draw", &[4]),
+            RequestKind::Reach => row(b"reach", &[16]),
+        }
+    }
+}
 
-pub(crate) const HELD: u64 = 9;
+// The form of a form's line.
+#[derive(Clone, Copy)]
+pub(crate) enum FormKind {
+    AddSub(AddSubOp),
+    TwoSource(TwoSourceOp),
+    Ldg,
+    TagStore(TagStoreOp),
+    Stgp,
+}
 
-pub(crate) const TAGS: u64 = 10;
+pub(crate) const FORMS: [FormKind; 12] = [
+    FormKind::AddSub(AddSubOp::Addg),
+    FormKind::AddSub(AddSubOp::Subg),
+    FormKind::TwoSource(TwoSourceOp::Subp),
+    FormKind::TwoSource(TwoSourceOp::Subps),
+    FormKind::TwoSource(TwoSourceOp::Irg),
+    FormKind::TwoSource(TwoSourceOp::Gmi),
+    FormKind::Ldg,
+    FormKind::TagStore(TagStoreOp::Stg),
+    FormKind::TagStore(TagStoreOp::Stzg),
+    FormKind::TagStore(TagStoreOp::St2g),
+    FormKind::TagStore(TagStoreOp::Stz2g),
+    FormKind::Stgp,
+];
 
-pub(crate) const DATA: u64 = 11;
+impl Kind for FormKind {
+    fn shape(self) -> Shape {
+        match self {
+            FormKind::AddSub(AddSubOp::Addg) => row(b"addg", &[16, 16, 16, 16]),
+            FormKind::AddSub(AddSubOp::Subg) => row(b"subg", &[16, 16, 16, 16]),
+            FormKind::TwoSource(TwoSourceOp::Subp) => row(b"subp", &[16, 16, 16]),
+            FormKind::TwoSource(TwoSourceOp::Subps) => row(b"subps", &[16, 16, 16]),
+            FormKind::TwoSource(TwoSourceOp::Irg) => row(b"irg", &[16, 16, 16]),
+            FormKind::TwoSource(TwoSourceOp::Gmi) => row(b"gmi", &[16, 16, 16]),
+            FormKind::Ldg => row(b"ldg", &[16, 16, 16]),
+            FormKind::TagStore(TagStoreOp::Stg) => row(b"stg", &[1, 16, 16, 16]),
+            FormKind::TagStore(TagStoreOp::Stzg) => row(b"stzg", &[1, 16, 16, 16]),
+            FormKind::TagStore(TagStoreOp::St2g) => row(b"st2g", &[1, 16, 16, 16]),
+            FormKind::TagStore(TagStoreOp::Stz2g) => row(b"stz2g", &[1, 16, 16, 16]),
+            FormKind::Stgp => row(b"stgp", &[1, 16, 16, 16, 16]),
+        }
+    }
+}
 
-pub(crate) const HISTORY: u64 = 12;
+// What is answered beside the state and the forms.
+#[derive(Clone, Copy)]
+pub(crate) enum AnswerKind {
+    Code,
+    Ran,
+    Played,
+    Decoded,
+    Encoded,
+    Chosen,
+    Drawn,
+    Reached,
+    Bad,
+}
 
-pub(crate) const X: u64 = 13;
-
-pub(crate) const TAG: u64 = 14;
-
-pub(crate) const BYTE: u64 = 15;
-
-pub(crate) const LOG: u64 = 16;
-
-pub(crate) const LIST: u64 = 17;
-
-// The calls.
-pub(crate) const WORD: u64 = 18;
-
-pub(crate) const RUN: u64 = 19;
-
-pub(crate) const BACK: u64 = 20;
-
-pub(crate) const DUMP: u64 = 21;
-
-pub(crate) const PLAY: u64 = 22;
-
-pub(crate) const LEND: u64 = 23;
-
-pub(crate) const SHOW: u64 = 24;
-
-pub(crate) const DECODE: u64 = 25;
-
-pub(crate) const CHOOSE: u64 = 26;
-
-pub(crate) const DRAW: u64 = 27;
-
-pub(crate) const REACH: u64 = 28;
-
-// The forms.
-pub(crate) const ADDG: u64 = 29;
-
-pub(crate) const SUBG: u64 = 30;
-
-pub(crate) const SUBP: u64 = 31;
-
-pub(crate) const SUBPS: u64 = 32;
-
-pub(crate) const IRG: u64 = 33;
-
-pub(crate) const GMI: u64 = 34;
-
-pub(crate) const LDG: u64 = 35;
-
-pub(crate) const STG: u64 = 36;
-
-pub(crate) const STZG: u64 = 37;
-
-pub(crate) const ST2G: u64 = 38;
-
-pub(crate) const STZ2G: u64 = 39;
-
-pub(crate) const STGP: u64 = 40;
-
-// The answers, which no script has.
-pub(crate) const CODE: u64 = 41;
-
-pub(crate) const RAN: u64 = 42;
-
-pub(crate) const PLAYED: u64 = 43;
-
-pub(crate) const DECODED: u64 = 44;
-
-pub(crate) const ENCODED: u64 = 45;
-
-pub(crate) const CHOSEN: u64 = 46;
-
-pub(crate) const DRAWN: u64 = 47;
-
-pub(crate) const REACHED: u64 = 48;
-
-pub(crate) const BAD: u64 = 49;
+impl Kind for AnswerKind {
+    fn shape(self) -> Shape {
+        match self {
+            AnswerKind::Code => row(b"code", &[1]),
+            AnswerKind::Ran => row(b"ran", &[1, 8]),
+            AnswerKind::Played => row(b"played", &[2, 8]),
+            AnswerKind::Decoded => row(b"decoded", &[1]),
+            AnswerKind::Encoded => row(b"encoded", &[1, 8]),
+            AnswerKind::Chosen => row(b"chosen", &[1]),
+            AnswerKind::Drawn => row(b"drawn", &[1, 4]),
+            AnswerKind::Reached => row(b"reached", &[8, 8, 16]),
+            AnswerKind::Bad => row(b"bad", &[8]),
+        }
+    }
+}

@@ -1,171 +1,172 @@
 // Reads the lines of a script.
-use super::kinds;
-use super::lines::{Line, separator, shape_of};
-use super::numbers::at_most;
-use super::player::{MOST_DATA, MOST_HISTORY, MOST_LISTED, MOST_TAGS};
+use super::kinds::{FORMS, FormKind, Kind, REQUESTS, RequestKind, SETTINGS, SettingKind};
+use super::lines::{
+    Call, Lent, Line, MOST_DATA, MOST_HISTORY, MOST_LISTED, MOST_TAGS, Question, Setting,
+};
+use isa::{Form, Mode};
 use text::Hex;
 
-// The place after the key at at, or 0 where it does not stand there.
-fn after_key(s: &[u8], at: usize, key: [u8; 8], key_length: usize) -> usize {
-    let n = at_most(key_length, 8);
-    if s.len() < n {
-        return 0;
+// The number of so many digits behind a separator, and the text behind it.
+fn number(text: &[u8], separator: u8, width: usize) -> Option<(u64, &[u8])> {
+    let (first, rest) = text.split_first()?;
+    if *first != separator || rest.len() < width || 16 < width {
+        return None;
     }
-    if s.len() - n < at {
-        return 0;
-    }
-    if text::key_at(s, at, &key[..n]) {
-        at + n
-    } else {
-        0
+    match text::hex_at(rest, 0, width) {
+        Hex::Value(value) => Some((value, &rest[width..])),
+        Hex::NotHex => None,
     }
 }
 
-// A number and the place after it, which is 0 where no such number stands.
-#[derive(Clone, Copy)]
-struct Number {
-    value: u64,
-    next: usize,
+// The numbers of a line of a kind, with zeros behind them.
+fn numbers(text: &[u8], kind: impl Kind) -> Option<[u64; 5]> {
+    let shape = kind.shape();
+    let mut rest = text.strip_prefix(shape.key)?;
+    let mut numbers = [0; 5];
+    let mut separator = b'=';
+    for (place, width) in numbers.iter_mut().zip(shape.widths) {
+        let (value, behind) = number(rest, separator, *width)?;
+        *place = value;
+        rest = behind;
+        separator = b' ';
+    }
+    if rest.is_empty() { Some(numbers) } else { None }
 }
 
-fn no_number() -> Number {
-    Number { value: 0, next: 0 }
+// The kind of a line among some, and its numbers.
+fn find<K: Kind + Copy>(kinds: &[K], text: &[u8]) -> Option<(K, [u64; 5])> {
+    kinds
+        .iter()
+        .find_map(|kind| numbers(text, *kind).map(|found| (*kind, found)))
 }
 
-// The number of a width at at, with its separator before it; of width 0, nothing. No number stands at place 0, since a key stands
-// before each: so once a part of a line is wrong the whole is.
-fn number_at(s: &[u8], at: usize, before: u8, width: usize) -> Number {
-    if width == 0 {
-        return Number { value: 0, next: at };
+fn switch(v: u64) -> Option<bool> {
+    match v {
+        0 => Some(false),
+        1 => Some(true),
+        _ => None,
     }
-    let n = at_most(width, 16);
-    if at == 0 {
-        return no_number();
+}
+
+fn up_to(v: u64, most: usize) -> Option<usize> {
+    usize::try_from(v).ok().filter(|n| *n <= most)
+}
+
+fn below(v: u64, end: usize) -> Option<usize> {
+    usize::try_from(v).ok().filter(|n| *n < end)
+}
+
+fn setting(text: &[u8]) -> Option<Setting> {
+    let (kind, [a, b, ..]) = find(&SETTINGS, text)?;
+    Some(match kind {
+        SettingKind::Fresh => Setting::Fresh(a),
+        SettingKind::Access => Setting::Access(switch(a)?),
+        SettingKind::Exclude => Setting::Exclude(u16::try_from(a).ok()?),
+        SettingKind::Nzcv => Setting::Nzcv(u8::try_from(a).ok()?),
+        SettingKind::Rgsr => Setting::Rgsr(u8::try_from(a).ok()?),
+        SettingKind::Seed => Setting::Seed(u16::try_from(a).ok()?),
+        SettingKind::Next => Setting::Next(usize::try_from(a).ok()?),
+        SettingKind::Held => Setting::Held(usize::try_from(a).ok()?),
+        SettingKind::Tags => Setting::Tags(up_to(a, MOST_TAGS)?),
+        SettingKind::Data => Setting::Data(up_to(a, MOST_DATA)?),
+        SettingKind::History => Setting::History(up_to(a, MOST_HISTORY)?),
+        SettingKind::X => Setting::X(below(a, 32)?, b),
+        SettingKind::Tag => Setting::Tag(below(a, MOST_TAGS)?, u8::try_from(b).ok()?),
+        SettingKind::Byte => Setting::Byte(below(a, MOST_DATA)?, u8::try_from(b).ok()?),
+        SettingKind::Log => Setting::Log(below(a, MOST_HISTORY)?, b),
+        SettingKind::List => Setting::List(below(a, MOST_LISTED)?, u32::try_from(b).ok()?),
+    })
+}
+
+fn lent(codes: u64, counts: u64, words: u64) -> Option<Lent> {
+    Some(Lent {
+        codes: usize::try_from(codes).ok()?,
+        counts: usize::try_from(counts).ok()?,
+        words: usize::try_from(words).ok()?,
+    })
+}
+
+fn choice(start: u64, offset: u64, mask: u64) -> Option<Question> {
+    Some(Question::Choose {
+        start: u8::try_from(start).ok()?,
+        offset: u8::try_from(offset).ok()?,
+        mask: u16::try_from(mask).ok()?,
+    })
+}
+
+fn request(text: &[u8]) -> Option<Line> {
+    let (kind, [a, b, c, ..]) = find(&REQUESTS, text)?;
+    Some(match kind {
+        RequestKind::Word => Line::Call(Call::Word(u32::try_from(a).ok()?)),
+        RequestKind::Run => Line::Call(Call::Run(up_to(a, MOST_LISTED)?)),
+        RequestKind::Back => Line::Call(Call::Back),
+        RequestKind::Dump => Line::Dump(switch(a)?),
+        RequestKind::Play => Line::Play(switch(a)?),
+        RequestKind::Lend => Line::Lend(lent(a, b, c)?),
+        RequestKind::Show => Line::Ask(Question::Show),
+        RequestKind::Decode => Line::Ask(Question::Decode(u32::try_from(a).ok()?)),
+        RequestKind::Choose => Line::Ask(choice(a, b, c)?),
+        RequestKind::Draw => Line::Ask(Question::Draw(u16::try_from(a).ok()?)),
+        RequestKind::Reach => Line::Ask(Question::Reach(a)),
+    })
+}
+
+// The mode of a form's line is the field of the word.
+fn mode(v: u64) -> Option<Mode> {
+    match v {
+        1 => Some(Mode::Post),
+        2 => Some(Mode::Offset),
+        3 => Some(Mode::Pre),
+        _ => None,
     }
-    if s.len() <= n {
-        return no_number();
-    }
-    if s.len() - n <= at {
-        return no_number();
-    }
-    if s[at] != before {
-        return no_number();
-    }
-    match text::hex_at(s, at + 1, n) {
-        Hex::Value(value) => Number {
-            value,
-            next: at + 1 + n,
+}
+
+fn form(text: &[u8]) -> Option<Form> {
+    let (kind, [a, b, c, d, e]) = find(&FORMS, text)?;
+    Some(match kind {
+        FormKind::AddSub(op) => Form::AddSub {
+            op,
+            d: a,
+            n: b,
+            amount: c,
+            offset: d,
         },
-        Hex::NotHex => no_number(),
-    }
+        FormKind::TwoSource(op) => Form::TwoSource {
+            op,
+            d: a,
+            n: b,
+            m: c,
+        },
+        FormKind::Ldg => Form::Ldg {
+            t: a,
+            n: b,
+            amount: c,
+        },
+        FormKind::TagStore(op) => Form::TagStore {
+            op,
+            mode: mode(a)?,
+            t: b,
+            n: c,
+            amount: d,
+        },
+        FormKind::Stgp => Form::Stgp {
+            mode: mode(a)?,
+            t: b,
+            t2: c,
+            n: d,
+            amount: e,
+        },
+    })
 }
 
-// The place after the line feed at at, or 0 where none stands there.
-fn after_line_feed(s: &[u8], at: usize) -> usize {
-    if at == 0 {
-        return 0;
-    }
-    if s.len() <= at {
-        return 0;
-    }
-    if s[at] == b'\n' { at + 1 } else { 0 }
-}
-
-// The line of a kind at at.
-fn line_at(s: &[u8], at: usize, kind: u64) -> Line {
-    let shape = shape_of(kind);
-    let key = shape.key;
-    let widths = shape.widths;
-    let mut values = [0u64; 5];
-    let mut place = after_key(s, at, key, shape.key_length);
-    let mut i = 0;
-    while i < 5 {
-        let number = number_at(s, place, separator(i), widths[i]);
-        values[i] = number.value;
-        place = number.next;
-        i += 1;
-    }
-    let next = after_line_feed(s, place);
-    Line { kind, values, next }
-}
-
-// Whether the first number of a line is one that the kind has.
-fn is_allowed(kind: u64, first: u64) -> bool {
-    match kind {
-        kinds::ACCESS | kinds::DUMP | kinds::PLAY => first <= 1,
-        kinds::TAGS => first <= MOST_TAGS as u64,
-        kinds::DATA => first <= MOST_DATA as u64,
-        kinds::HISTORY => first <= MOST_HISTORY as u64,
-        kinds::X => first <= 0x1f,
-        kinds::TAG => first < MOST_TAGS as u64,
-        kinds::BYTE => first < MOST_DATA as u64,
-        kinds::LOG => first < MOST_HISTORY as u64,
-        kinds::LIST => first < MOST_LISTED as u64,
-        kinds::RUN => first <= MOST_LISTED as u64,
-        kinds::STG | kinds::STZG | kinds::ST2G | kinds::STZ2G | kinds::STGP => is_mode(first),
-        _ => true,
-    }
-}
-
-fn is_mode(n: u64) -> bool {
-    if n == 0 { false } else { n <= 3 }
-}
-
-// The place after the line feed that ends the line at at, or 0 where none does.
-fn after_line(s: &[u8], at: usize) -> usize {
-    let mut i = at;
-    while i < s.len() {
-        if s[i] == b'\n' {
-            return i + 1;
-        }
-        i += 1;
-    }
-    0
-}
-
-// The place after an empty line or a comment at at, or 0 where neither stands there.
-fn after_passed_over(s: &[u8], at: usize) -> usize {
-    if s.len() <= at {
-        return 0;
-    }
-    let first = s[at];
-    match first {
-        b'\n' | b'#' => after_line(s, at),
-        _ => 0,
-    }
-}
-
-fn wrong_line() -> Line {
-    let values = [0u64; 5];
-    Line::of(kinds::WRONG, values)
-}
-
-// The line at at. The place after it lies beyond at, or it is a wrong line. At the end of the script stands a wrong line.
-pub(crate) fn read(s: &[u8], at: usize) -> Line {
-    let next = after_passed_over(s, at);
-    if at < next {
-        let values = [0u64; 5];
-        return Line {
-            kind: kinds::PASSED_OVER,
-            values,
-            next,
-        };
-    }
-    let mut kind = kinds::FRESH;
-    while kind <= kinds::STGP {
-        let line = line_at(s, at, kind);
-        if at < line.next {
-            return allowed_line(line);
-        }
-        kind += 1;
-    }
-    wrong_line()
-}
-
-fn allowed_line(line: Line) -> Line {
-    if is_allowed(line.kind, line.values[0]) {
-        line
-    } else {
-        wrong_line()
+// What a line says, if it is none of the wrong ones. A line's key tells its kind, so that at most one of the three is found.
+pub(crate) fn read(line: &[u8]) -> Option<Line> {
+    let text = line.strip_suffix(b"\n")?;
+    match text {
+        [] | [b'#', ..] => Some(Line::PassedOver),
+        _ => setting(text)
+            .map(Line::Set)
+            .or_else(|| request(text))
+            .or_else(|| form(text).map(Question::Encode).map(Line::Ask)),
     }
 }

@@ -1,2 +1,0 @@
--- What only private functions cite. A reader who trusts the prover need not read it.
-pub mod Buffer
