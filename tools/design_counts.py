@@ -55,7 +55,8 @@ def functions():
                     start = j + 1
             parts.append(inner[start:].strip())
             first = text[i : text.index("\n", i)]
-            head = "" if first.endswith("{") else text[i : i + re.search(r"\n *\{\n|\n *\{\}", text[i:]).start()]
+            body = re.search(r"\n *\{", text[i:])
+            head = "" if body is None or re.search(r"[{};]$", first) else text[i : i + body.start()]
             clauses = re.findall(r"(?:requires|ensures)\*?(?: \w+)? \{ (.*?) \}\n", head + "\n", re.S)
             yield path, line_of(text, m.start()), m.group(1), [p for p in parts if p], clauses
 
@@ -77,7 +78,7 @@ CASTS = r"^ *(?:pub(?:\(crate\))? )?fn \w+\(\w+: \w+\) -> \w+\n?(?: *ensures[^\n
 RULES = [
     ("1", "an enum of the shape of Option or Result", enums),
     ("1", "a code, or whether it fits, as a field beside values", lambda: matches(r"^ +(?:pub(?:\(crate\))? )?(?:code|fits): \w+,$")),
-    ("1", "a constant number for a kind", lambda: [x for x in matches(r"^(?:pub(?:\(crate\))? )?const \w+: (?:u64|usize) = \d+;") if re.search(r"kinds|playing|workload", x[0])]),
+    ("1", "a constant number for a kind", lambda: [x for x in matches(r"^(?:pub(?:\(crate\))? )?const (?!MOST_|HEAD|ROOM)\w+: (?:u64|usize) = \d+;") if re.search(r"kinds|playing|workload", x[0])]),
     ("1", "a parameter or field that is a kind, a mode or a call as a number", lambda: matches(r"\b(?:kind|mode|call): (?:u64|usize)")),
     ("1", "0 where there is none, in words", lambda: matches(r"^ *//.*\b(?:or 0 where|which is 0 where|or 0 for)\b.*$")),
     ("3", "while or loop", lambda: matches(r"^ *(?:'\w+: )?(?:while\b.*|loop) \{$")),
