@@ -19,7 +19,7 @@ use Rattle.machine.specs.State.{State}
 use Rattle.machine.specs.Setup.{sound}
 use Rattle.machine.specs.Codes.{is_done}
 use Rattle.machine.specs.Registers.{x_or_sp, or_none}
-use Rattle.machine.proofs.Setup.{state_sized}
+use Rattle.machine.proofs.Rules.{state_sized}
 use Rattle.instructions.specs.Accesses.{access, address_of, granules_named, writeback_to}
 use Rattle.instructions.specs.Inside.Effects.{Change, new_bytes, Within, register_effect, store_effect, zeroing, form_effect}
 use Rattle.instructions.specs.Inside.Places.{access_code}
