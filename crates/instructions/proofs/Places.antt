@@ -1,6 +1,6 @@
 -- What the code of an access tells, and a place that was found. Assumes nothing.
 use Rattle.std.proofs.Common.{◌≡◌, ℕ, ◌+◌, ◌*◌, ◌%◌, ◌<◌, ◌≤◌, Bool, true, false, cond, not, ◌&&◌, eqb, refl, arith, eq-eqb, ne_eqb, eqb-true, Ok, Err}
-use mathlib.Core.Bool.{and-false, false≢true}
+use mathlib.Core.Bool.{and-false}
 use Rattle.isa.specs.declared.Mode.{Mode}
 use Rattle.isa.specs.declared.Mode.TheVariants.{Post, Pre, Offset}
 use Rattle.memory.specs.declared.LocateError.{LocateError}
@@ -25,10 +25,10 @@ module _ (base g n rn address multiple granules : ℕ) (stores : Bool) where
       go : (t u : Bool) → eqb (address % multiple) 0 ≡ u → (v : Bool) → all_inside base g granules address ≡ v
           → is_done (cond t SpAlign (cond (not u) Align (cond (not v) Outside Done))) ≡ true
           → (address % multiple ≡ 0) × (all_inside base g granules address ≡ true)
-      go true u p v q k = absurd (false≢true k)
+      go true u p v q k = absurd (cc)
       go false true p true q k = (eqb-true (address % multiple) 0 p, q)
-      go false true p false q k = absurd (false≢true k)
-      go false false p v q k = absurd (false≢true k)
+      go false true p false q k = absurd (cc)
+      go false false p v q k = absurd (cc)
 
 -- what a place tells of the code
 
@@ -37,13 +37,13 @@ placed_first code first i h = go (is_done code) h
   where
     go : (t : Bool) → cond t (Ok first) (Err code) ≡ Ok i → (t ≡ true) × (first ≡ i)
     go true k = (refl, cc)
-    go false k = let z : ◌≡◌ {A = ℕ} 0 1 = cc in absurd (omega arith)
+    go false k = absurd (cc)
 
 pub placed_nowhere : (code told : Code) (first : ℕ) → placed_by code first ≡ Err told → (is_done code ≡ false) × (code ≡ told)
 placed_nowhere code told first h = go (is_done code) h
   where
     go : (t : Bool) → cond t (Ok first) (Err code) ≡ Err told → (t ≡ false) × (code ≡ told)
-    go true k = let z : ◌≡◌ {A = ℕ} 0 1 = cc in absurd (omega arith)
+    go true k = absurd (cc)
     go false k = (refl, cc)
 
 -- what the code finds, test by test
@@ -73,7 +73,7 @@ module _ (base g n rn address multiple granules : ℕ) (stores : Bool)
     where
       go : (t : Bool) → cond t (Ok (index_of base address)) (Err NoGranule) ≡ Err e
           → Err Outside ≡ placed_by (cond (not t) Outside Done) (index_of base address)
-      go true k = let z : ◌≡◌ {A = ℕ} 0 1 = cc in absurd (omega arith)
+      go true k = absurd (cc)
       go false k = refl
 
 -- a base register that is aligned is no misaligned SP
