@@ -1,10 +1,9 @@
 -- Calls and the rules of the setup: a call keeps a setup that keeps them, and is refused on one that breaks a rule. Assumes nothing.
-use Prim.Native.Nat.{ℕ, suc, ◌+◌, ◌-◌, ◌≤◌, ◌<◌}
+use Prim.Native.Nat.{ℕ, ◌+◌, ◌≤◌}
 use mathlib.Core.Bool.{Bool, true, false, cond}
 use mathlib.Core.List.{List, [], ◌∷◌, ◌++◌}
 use mathlib.Core.Path.{◌≡◌, refl, sym, ap}
 use native.Mathlib.Nat.{zero-add}
-use native.Mathlib.Numerals.{add-one}
 use native.Mathlib.Omega.{arith}
 use borrow.Author.Tests.{eqb-true, eqb-false, le-leb}
 use lib.Dec.{eqb}
@@ -91,8 +90,8 @@ restored_sound r s h =
       data_length,
       length-sets,
       state_sizes s.settings s.registers.status (length s.bytes) (length s.tags) h,
-      le-leb e.nzcv 15 (four (get_or r 0 0) 32),
-      le-leb e.rgsr 15 (four (get_or r 0 0) 36),
+      le-leb e.status.nzcv 15 (four (get_or r 0 0) 32),
+      le-leb e.status.rgsr 15 (four (get_or r 0 0) 36),
     )
 
 module _ (s : Simulation) (h : well_formed s ≡ true) where

@@ -67,7 +67,12 @@ fn words_left(calls: &[Call], words: usize) -> Option<usize>
 
 // How many calls of a list are played, all of them, or why none, by what it is lent.
 #[tactic(auto, unfolding(crate::specs::Playing::play_result))]
-fn list_result(calls: &[Call], words: usize, codes: usize, counts: usize) -> Result<usize, PlayError>
+fn list_result(
+    calls: &[Call],
+    words: usize,
+    codes: usize,
+    counts: usize,
+) -> Result<usize, PlayError>
     ensures { result ≡ play_result calls.now words codes counts }
 {
     if codes < calls.len() || counts < calls.len() {

@@ -1,5 +1,5 @@
 -- A step back, case by case. Assumes nothing.
-use Prim.Native.Nat.{ℕ, zero, suc, ◌+◌, ◌*◌, ◌≤◌, ◌<◌}
+use Prim.Native.Nat.{ℕ, zero, suc, ◌*◌, ◌<◌}
 use mathlib.Core.Bool.{Bool, true, false, cond}
 use mathlib.Core.Logic.{◌≢◌}
 use mathlib.Core.List.{List, []}
@@ -17,7 +17,7 @@ use Rattle.history.specs.Inside.Slots.{history_of}
 use Rattle.history.specs.Recording.{restored}
 use Rattle.history.specs.Records.{entry_in}
 use Rattle.history.specs.Ring.{capacity, retreated, newest, popped}
-use Rattle.execution.specs.Calls.{Out, refused, done, when_done, Returned, returned, answered}
+use Rattle.execution.specs.Calls.{Out, refused, done, when_done}
 use Rattle.execution.specs.Simulation.{Simulation, well_formed}
 use Rattle.execution.specs.Steps.{step_back_of}
 use Rattle.execution.proofs.Cursors.{placed, retreated_placed}

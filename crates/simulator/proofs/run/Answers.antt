@@ -3,8 +3,8 @@ use Rattle.execution.specs.Steps.{run_of}
 use Rattle.simulator.proofs.Setups.{check_passed, check_failed}
 use Rattle.simulator.proofs.run.Goals as goal
 
-pub take_all-requires-clause-formed : goal.take_all-requires-clause-formed
-take_all-requires-clause-formed c = check_passed _ _ _ _ _ c.in-Ok.ensures
+pub take_all-requires : goal.take_all-requires
+take_all-requires c = check_passed _ _ _ _ _ c.in-Ok.ensures
 
 pub returns-in-Ok-clause-ran : goal.returns-in-Ok-clause-ran
 unfolding run_of

@@ -10,5 +10,5 @@ returns-in_err-check-clause-taken c =
     let (broken, code) = check_failed _ _ _ _ _ c.in_err-check.ensures in
     rw (p.1, p.2, code, ill_formed _ _ broken)
 
-pub take-requires-clause-formed : goal.take-requires-clause-formed
-take-requires-clause-formed c = check_passed _ _ _ _ _ c.in_ok-check.ensures
+pub take-requires : goal.take-requires
+take-requires c = check_passed _ _ _ _ _ c.in_ok-check.ensures

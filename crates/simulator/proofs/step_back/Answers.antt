@@ -10,5 +10,5 @@ returns-in_err-check-clause-undone c =
     let (broken, code) = check_failed _ _ _ _ _ c.in_err-check.ensures in
     rw (p.1, p.2, code, back_setup _ broken)
 
-pub back-requires-clause-formed : goal.back-requires-clause-formed
-back-requires-clause-formed c = check_passed _ _ _ _ _ c.in_ok-check.ensures
+pub back-requires : goal.back-requires
+back-requires c = check_passed _ _ _ _ _ c.in_ok-check.ensures

@@ -1,8 +1,6 @@
 -- Assumes nothing.
 use Rattle.std.proofs.Common.{◌≡◌, length, arith, rules, ap, ◌∙◌}
-use Rattle.machine.specs.declared.Code.TheVariants.{Done}
 use Rattle.execution.specs.Calls.{returned}
-use Rattle.execution.specs.Simulation.{standing}
 use Rattle.execution.proofs.Kept.{took_done, took_refused}
 use Rattle.stepping.proofs.Runs.{at_end, at_refusal, one_on}
 use Rattle.stepping.proofs.take_all.Goals as goal

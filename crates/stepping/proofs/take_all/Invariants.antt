@@ -1,6 +1,5 @@
 -- `stepping::take_all` meets its contract. The loop's invariant: the run is what is left of it, with as many words done as are passed.
 -- Assumes nothing.
-use Rattle.std.proofs.Common.{◌≤◌, length}
 use Rattle.machine.specs.Loans.{SameLoans}
 use Rattle.execution.specs.Simulation.{standing}
 use Rattle.stepping.proofs.Runs.{Reached}

@@ -1,5 +1,5 @@
 -- `simulator::playing::make_call` meets its contract. Assumes nothing.
-use Rattle.std.proofs.Common.{◌≡◌, length, take, arith}
+use Rattle.std.proofs.Common.{◌≡◌, take, arith}
 use lib.Seq.{take_all}
 use Rattle.execution.specs.Calls.{call}
 use Rattle.execution.specs.Steps.{run_of}

@@ -3,7 +3,7 @@ use Rattle.std.proofs.Common.{arith, sym, ◌∙◌}
 use Rattle.machine.specs.declared.Code.TheVariants.{Done}
 use Rattle.history.specs.Inside.Slots.{history_of}
 use Rattle.execution.specs.Calls.{returned}
-use Rattle.execution.proofs.Taking.{sizes}
+use Rattle.execution.proofs.Taking.{bytes_len}
 use Rattle.stepping.proofs.StepsBack.{back_none, back_cursor, slot_inside, slot_undone, undone_by}
 use Rattle.stepping.proofs.undoing.back.Goals as goal
 
@@ -29,7 +29,7 @@ returns-then-is_malformed-clause-undone c =
     rw (e, sym c.is_malformed.ensures ∙ c.if-is_malformed.true)
 
 pub restore-requires-clause-bytes_len : goal.restore-requires-clause-bytes_len
-restore-requires-clause-bytes_len c = (sizes _ c.requires).1
+restore-requires-clause-bytes_len c = bytes_len _ c.requires
 
 pub returns-clause-undone : goal.returns-clause-undone
 unfolding undone_by
