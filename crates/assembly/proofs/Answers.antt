@@ -1,4 +1,5 @@
 -- What is answered, by what a text comes to. Assumes nothing.
+use Rattle.std.proofs.Common.{Ok, Err}
 use Prim.Native.Nat.{ℕ, ◌+◌, ◌-◌, ◌≤◌, ◌<◌}
 use mathlib.Core.List.{List, ◌++◌}
 use mathlib.Core.Path.{◌≡◌, ap, sym, ◌∙◌}
@@ -10,28 +11,27 @@ use Rattle.session_lines.specs.Laws.{BadIsFirst}
 use Rattle.session_lines.specs.LineFormats.{lines_from}
 use Rattle.session_lines.specs.Parsing.{Parsed, good as good_session, bad, parsed}
 use Rattle.session_lines.proofs.FirstWrongLines.{bad_is_first}
-use Rattle.assembly.specs.Answers.{Outcome, LendableText, good, refused, answered, answer_for}
+use Rattle.assembly.specs.Answers.{Outcome, LendableText, answered, answer_for}
 use Rattle.assembly.specs.Assembling.{assembled, numbers_from}
 use Rattle.assembly.specs.Listing.{defined_front, listed, listed_numbers, listed_session, listing_of}
 use Rattle.assembly.specs.SourceLines.{bytes_of, lines_of}
-use Rattle.assembly.specs.declared.Answer.TheVariants.{Text, Refused}
 use Rattle.assembly.specs.declared.Refusal.{Refusal}
 use Rattle.assembly.specs.declared.Refusal.TheVariants.{TooLarge, Undefined, Wrong}
 
 module _ (o : Outcome) (out : List ℕ) where
-  pub answer_text_lem : (text : List ℕ) (r : ℕ) (after : List ℕ) → o ≡ good text → r ≡ length text → after ≡ sets out 0 text → answered (Text r) after ≡ answer_for o out
+  pub answer_text_lem : (text : List ℕ) (r : ℕ) (after : List ℕ) → o ≡ Ok text → r ≡ length text → after ≡ sets out 0 text → answered (Ok r) after ≡ answer_for o out
   unfolding answer_for
   answer_text_lem text r after e size put = rw (e, size, put)
 
-  pub answer_refused : (why : Refusal) → o ≡ refused why → answered (Refused why) out ≡ answer_for o out
+  pub answer_refused : (why : Refusal) → o ≡ Err why → answered (Err why) out ≡ answer_for o out
   unfolding answer_for
   answer_refused why e = rw e
 
-pub lendable : (r : ℕ) (out : List ℕ) → r ≤ length out → LendableText (Text r) out
+pub lendable : (r : ℕ) (out : List ℕ) → r ≤ length out → LendableText (Ok r) out
 lendable r out h = (h, sym (length-take-le r out h))
 
 module _ (s : List ℕ) where
-  pub assembled_large : 1048576 < length s → assembled s ≡ refused TooLarge
+  pub assembled_large : 1048576 < length s → assembled s ≡ Err TooLarge
   unfolding assembled
   assembled_large h = rw (lt-leb (length s) 1048576 h)
 
@@ -43,18 +43,18 @@ module _ (s : List ℕ) where
 
 module _ (s front words : List ℕ) where
   pub listed_undefined : (d place : ℕ) → d ≡ defined_front words → d < length words → place ≡ bytes_of (9 + d) (lines_of s)
-      → listed_numbers s front words ≡ refused (Undefined (10 + d) place)
+      → listed_numbers s front words ≡ Err (Undefined (10 + d) place)
   unfolding listed_numbers
   listed_undefined d place e h q =
       let before : 10 + d - 1 ≡ 9 + d = omega arith in
       rw (← e, lt-ltb d (length words) h, q, before)
 
-  pub listed_defined : defined_front words ≡ length words → listed_numbers s front words ≡ good (lines_from 0 front ++ listing_of words)
+  pub listed_defined : defined_front words ≡ length words → listed_numbers s front words ≡ Ok (lines_from 0 front ++ listing_of words)
   unfolding listed_numbers
   listed_defined e = rw (le-ltb (defined_front words) (length words) (omega arith))
 
 module _ (s : List ℕ) where
-  pub listed_large : 1048576 < length s → listed s ≡ refused TooLarge
+  pub listed_large : 1048576 < length s → listed s ≡ Err TooLarge
   unfolding listed
   listed_large h = rw (lt-leb (length s) 1048576 h)
 
@@ -75,7 +75,7 @@ module _ (s : List ℕ) where
         ∙ ap (listed_numbers s front) (drop_at front (take (n - 9) words) 9 nine)
 
     pub listed_bad : (number place : ℕ) → bad number ≡ parsed s → place ≡ bytes_of (number - 1) (lines_of s)
-        → listed s ≡ refused (Wrong number (number - 1) place)
+        → listed s ≡ Err (Wrong number (number - 1) place)
     listed_bad number place e q = rw q (listed_small (bad number) (sym e))
 
 pub from_one : (s : List ℕ) (number : ℕ) → bad number ≡ parsed s → 1 ≤ number

@@ -1,4 +1,5 @@
 -- A listing is assembled to the session that was listed. Assumes nothing.
+use Rattle.std.proofs.Common.{Ok, Err}
 use Prim.Native.Nat.{ℕ, suc, ◌+◌, ◌≤◌, zero-le}
 use mathlib.Core.Bool.{Bool, true, false, cond}
 use mathlib.Core.List.{List, [], ◌∷◌, ◌++◌, append_assoc}
@@ -18,7 +19,6 @@ use Rattle.session_lines.proofs.LineFormats.{word_most}
 use Rattle.session_lines.proofs.OnlyGoodSessions.{only_good_is_read}
 use Rattle.listing.specs.Lines.{line_of}
 use Rattle.listing.proofs.OneLine.{line_once}
-use Rattle.assembly.specs.Answers.{good, refused}
 use Rattle.assembly.specs.Assembling.{assembled, before, numbers_from, session_of}
 use Rattle.assembly.specs.Laws.{DefinedIsListed, ListingIsAssembled}
 use Rattle.assembly.specs.Listing.{defined_front, form_line, listed, listed_numbers, listed_session, listing_of}
@@ -38,8 +38,8 @@ tail_range i x v range j =
 
 -- the nine lines, and whatever is read behind them
 front_read : (number i at : ℕ) (front rest ws : List ℕ) → i + length front ≡ 9 → InRange i front
-    → ((number at : ℕ) → numbers_from number 9 at (lines_of rest) ≡ good ws)
-    → numbers_from number i at (lines_of (lines_from i front ++ rest)) ≡ good (front ++ ws)
+    → ((number at : ℕ) → numbers_from number 9 at (lines_of rest) ≡ Ok ws)
+    → numbers_from number i at (lines_of (lines_from i front ++ rest)) ≡ Ok (front ++ ws)
 unfolding lines_from
 front_read number i at [] rest ws nine range more = let all : i ≡ 9 = omega arith in rw all (more number at)
 front_read number i at (x ∷ front) rest ws nine range more =
@@ -51,7 +51,7 @@ front_read number i at (x ∷ front) rest ws nine range more =
     ∙ ap (before x) (front_read (number + 1) (i + 1) (at + length line) front rest ws (omega arith) (tail_range i x front range) more)
 
 words_read : (number i at : ℕ) (ws : List ℕ) → 9 ≤ i → i + length ws ≤ 265 → InRange i ws → defined_front ws ≡ length ws
-    → numbers_from number i at (lines_of (listing_of ws)) ≡ good ws
+    → numbers_from number i at (lines_of (listing_of ws)) ≡ Ok ws
 unfolding listing_of lines_of
 words_read number i at [] nine most range all = lines_done number i at nine
 words_read number i at (w ∷ ws) nine most range all =
@@ -92,12 +92,12 @@ module _ (v : List ℕ) (numbers : GoodNumbers v) where
   listing_room : length (listing v) ≤ 1048576
   listing_room = rw length-append (omega (arith, front_long (take 9 v) nine, listing_short (drop 9 v), few))
 
-  pub listing_read : defined_front (drop 9 v) ≡ length (drop 9 v) → assembled (listing v) ≡ good v
+  pub listing_read : defined_front (drop 9 v) ≡ length (drop 9 v) → assembled (listing v) ≡ Ok v
   listing_read all =
       assembled_small (listing v) listing_room
       ∙ front_read 1 0 0 (take 9 v) (listing_of (drop 9 v)) (drop 9 v) (rw zero-add nine) (take_range v numbers.range)
       (λ number at. words_read number 9 at (drop 9 v) (omega arith) (omega (arith, few)) (drop_range v numbers.range) all)
-      ∙ ap good (take-append-drop 9 v)
+      ∙ ap Ok (take-append-drop 9 v)
 
 -- what was read is a good session, and short
 module _ (s v : List ℕ) (e : parsed s ≡ good_session v) where
@@ -119,25 +119,25 @@ defined_is_listed s v e all =
 
 -- by how the listing of a session goes
 
-not_refused : (why : Refusal) (t : List ℕ) → refused why ≡ good t → ⊥
-not_refused why t e = let z : ◌≡◌ {A = ℕ} 0 1 = cc in absurd (omega arith)
+not_refused : (why : Refusal) (t : List ℕ) → Err why ≡ Ok t → ⊥
+not_refused why t e = absurd cc
 
 module _ (s t : List ℕ) where
   by_defined : (v : List ℕ) → parsed s ≡ good_session v → (b : Bool) → ltb (defined_front (drop 9 v)) (length (drop 9 v)) ≡ b
-      → cond b (refused (Undefined (10 + defined_front (drop 9 v)) (line_start s (10 + defined_front (drop 9 v))))) (good (listing v)) ≡ good t
-      → session_of (assembled t) ≡ good s
+      → cond b (Err (Undefined (10 + defined_front (drop 9 v)) (line_start s (10 + defined_front (drop 9 v))))) (Ok (listing v)) ≡ Ok t
+      → session_of (assembled t) ≡ Ok s
   by_defined v p true q e = absurd (not_refused _ t e)
   by_defined v p false q e =
       let all : defined_front (drop 9 v) ≡ length (drop 9 v) = omega (arith, ltb-false (defined_front (drop 9 v)) (length (drop 9 v)) q, front_within (drop 9 v)) in
       let same : listing v ≡ t = cc in
-      ap session_of (ap assembled (sym same) ∙ listing_read v (good_numbers s v p) all) ∙ ap good (sym (its_lines s v p))
+      ap session_of (ap assembled (sym same) ∙ listing_read v (good_numbers s v p) all) ∙ ap Ok (sym (its_lines s v p))
 
-  by_session : (p : Parsed) → parsed s ≡ p → listed_session s p ≡ good t → session_of (assembled t) ≡ good s
+  by_session : (p : Parsed) → parsed s ≡ p → listed_session s p ≡ Ok t → session_of (assembled t) ≡ Ok s
   unfolding listed_numbers
   by_session (good_session v) q e = by_defined v q (ltb (defined_front (drop 9 v)) (length (drop 9 v))) refl e
   by_session (bad number) q e = absurd (not_refused _ t e)
 
-  by_size : (b : Bool) → leb (length s) 1048576 ≡ b → cond b (listed_session s (parsed s)) (refused TooLarge) ≡ good t → session_of (assembled t) ≡ good s
+  by_size : (b : Bool) → leb (length s) 1048576 ≡ b → cond b (listed_session s (parsed s)) (Err TooLarge) ≡ Ok t → session_of (assembled t) ≡ Ok s
   by_size true q e = by_session (parsed s) refl e
   by_size false q e = absurd (not_refused _ t e)
 

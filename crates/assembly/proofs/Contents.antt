@@ -12,7 +12,7 @@ use Rattle.session_lines.specs.Parsing.{line_of}
 use Rattle.listing.specs.Reading.{read_of}
 use Rattle.assembly.specs.Assembling.{content_at, front_content, word_content}
 use Rattle.assembly.specs.SourceLines.{passed_over}
-use Rattle.assembly.specs.declared.Content.TheVariants.{Passed, Number, Unexpected}
+use Rattle.assembly.specs.declared.reader.Content.TheVariants.{Passed, Number, Unexpected}
 
 module _ (i : ℕ) (line : List ℕ) where
   pub content_passed : passed_over line ≡ true → content_at i line ≡ Passed
@@ -39,14 +39,12 @@ module _ (i : ℕ) (line : List ℕ) (v : ℕ) (e : content_at i line ≡ Number
   small_by true q on = ltb-true i 265 q
   small_by false q on =
       let no : Unexpected ≡ Number v = sym (content_extra i line on (ltb-false i 265 q)) ∙ e in
-      let z : ◌≡◌ {A = ℕ} 0 1 = cc in
-      absurd (omega arith)
+      absurd cc
 
   expected_by : (b : Bool) → passed_over line ≡ b → i < 265
   expected_by true q =
       let no : Passed ≡ Number v = sym (content_passed i line q) ∙ e in
-      let z : ◌≡◌ {A = ℕ} 0 1 = cc in
-      absurd (omega arith)
+      absurd cc
   expected_by false q = small_by (ltb i 265) refl q
 
   pub number_expected : i < 265

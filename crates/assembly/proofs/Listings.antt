@@ -1,16 +1,15 @@
 -- The words of a session, listed. Assumes nothing.
-use Prim.Native.Nat.{ℕ, suc, ◌+◌, ◌*◌, ◌≤◌, ◌<◌, zero-le}
+use Rattle.std.proofs.Common.{Option, Some, None, Bool, cond, unwrap_or, is_none, sym}
+use Rattle.std.specs.List.{position_from}
+use Prim.Native.Nat.{ℕ, suc, ◌+◌, ◌*◌, ◌≤◌, zero-le}
 use mathlib.Core.List.{List, [], ◌∷◌, ◌++◌}
 use mathlib.Core.Path.{◌≡◌, refl, ap, sym, ◌∙◌}
-use native.Mathlib.Nat.{add-zero}
-use native.Mathlib.Numerals.{add-one}
+use native.Mathlib.Nat.{add-zero, zero-add}
 use native.Mathlib.Omega.{arith}
 use borrow.Author.Tests.{le-leb}
-use lib.ListN.{length, get_or, drop, drop_of_length-le, length-append}
-use lib.Seq.{drop-cons, length-sets, sets}
-use Rattle.isa.specs.Decoding.{decoded_code, decode_of}
-use Rattle.isa.specs.declared.Decoded.{Decoded}
-use Rattle.isa.specs.declared.Decoded.TheVariants.{Is, Undefined}
+use lib.ListN.{length, length-append}
+use lib.Seq.{length-sets, sets}
+use Rattle.isa.specs.Decoding.{decode_of}
 use Rattle.isa.specs.declared.Form.{Form}
 use Rattle.text.specs.Lines.{room_for}
 use Rattle.text.proofs.Writing.{after}
@@ -19,55 +18,51 @@ use Rattle.listing.specs.Writing.{Written, listed_at, listed_words, put_at, writ
 use Rattle.listing.proofs.Lengths.{line_short}
 use Rattle.assembly.specs.Listing.{defined_front, form_line, listing_of}
 
-front_by : (w : ℕ) (ws : List ℕ) (d : Decoded) → decode_of w ≡ d → decoded_code d ≡ 0 → defined_front (w ∷ ws) ≡ suc (defined_front ws)
+-- the first undefined word, as it is looked for
+
+abbrev pub Undefined : ℕ → Bool
+Undefined w = is_none (decode_of w)
+
+found_by : (d : Option Form) (w : ℕ) (ws : List ℕ) (i : ℕ) → decode_of w ≡ d
+    → i + 1 + defined_front ws ≡ unwrap_or (position_from Undefined (i + 1) ws) (i + 1 + length ws)
+    → i + defined_front (w ∷ ws) ≡ unwrap_or (cond (is_none d) (Some i) (position_from Undefined (i + 1) ws)) (i + suc (length ws))
 unfolding defined_front
-front_by w ws (Is f) e code = rw (e, defined_front)
-front_by w ws Undefined e code = absurd (omega arith)
+found_by (Some f) w ws i e rest =
+    let more : (n : ℕ) → i + suc n ≡ i + 1 + n = λ n. omega arith in
+    rw (e, defined_front) (more (defined_front ws) ∙ rest ∙ ap (unwrap_or (position_from Undefined (i + 1) ws)) (sym (more (length ws))))
+found_by None w ws i e rest = rw (e, defined_front) (omega arith)
 
-stop_by : (w : ℕ) (ws : List ℕ) (d : Decoded) → decode_of w ≡ d → (decoded_code d ≡ 0 → ⊥) → defined_front (w ∷ ws) ≡ 0
+found_from : (ws : List ℕ) (i : ℕ) → i + defined_front ws ≡ unwrap_or (position_from Undefined i ws) (i + length ws)
 unfolding defined_front
-stop_by w ws (Is f) e code = absurd (code refl)
-stop_by w ws Undefined e code = rw (e, defined_front)
+found_from [] i = refl
+found_from (w ∷ ws) i = found_by (decode_of w) w ws i refl (found_from ws (i + 1))
 
--- a turn of the search for an undefined word
-module _ (words : List ℕ) (i : ℕ) (h : i < length words) where
-  pub front_on : decoded_code (decode_of (get_or words i 0)) ≡ 0 → defined_front (drop i words) ≡ 1 + defined_front (drop (i + 1) words)
-  front_on code =
-      let w = get_or words i 0 in
-      omega (arith, ap defined_front (drop-cons words i 0 h), front_by w (drop (suc i) words) (decode_of w) refl code, ap (λ (k : ℕ). defined_front (drop k words)) (add-one i))
-
-  pub front_stop : (decoded_code (decode_of (get_or words i 0)) ≡ 0 → ⊥) → defined_front (drop i words) ≡ 0
-  front_stop code =
-      let w = get_or words i 0 in
-      ap defined_front (drop-cons words i 0 h) ∙ stop_by w (drop (suc i) words) (decode_of w) refl code
-
-pub front_end : (words : List ℕ) (i : ℕ) → length words ≤ i → defined_front (drop i words) ≡ 0
-unfolding defined_front
-front_end words i h = rw (drop_of_length-le words h)
+pub front_found : (ws : List ℕ) → unwrap_or (position_from Undefined 0 ws) (length ws) ≡ defined_front ws
+front_found ws = let e = found_from ws 0 in sym (rw (zero-add (defined_front ws), zero-add (length ws)) at e)
 
 -- the first of some words that are all defined, and the others
 pub record AllDefined (w : ℕ) (ws : List ℕ) : Type 0 where
   pub form : Form
-  pub is : decode_of w ≡ Is form
+  pub is : decode_of w ≡ Some form
   pub rest : defined_front ws ≡ length ws
 
-all_by : (w : ℕ) (ws : List ℕ) (d : Decoded) → decode_of w ≡ d → defined_front (w ∷ ws) ≡ suc (length ws) → AllDefined w ws
+all_by : (w : ℕ) (ws : List ℕ) (d : Option Form) → decode_of w ≡ d → defined_front (w ∷ ws) ≡ suc (length ws) → AllDefined w ws
 unfolding defined_front
-all_by w ws (Is f) e h = let more : suc (defined_front ws) ≡ suc (length ws) = rw (e, defined_front) at h in
+all_by w ws (Some f) e h = let more : suc (defined_front ws) ≡ suc (length ws) = rw (e, defined_front) at h in
     record { form = f; is = e; rest = omega arith }
-all_by w ws Undefined e h = let none : 0 ≡ suc (length ws) = rw (e, defined_front) at h in absurd (omega arith)
+all_by w ws None e h = let none : 0 ≡ suc (length ws) = rw (e, defined_front) at h in absurd (omega arith)
 
 pub all_defined : (w : ℕ) (ws : List ℕ) → defined_front (w ∷ ws) ≡ suc (length ws) → AllDefined w ws
 all_defined w ws h = all_by w ws (decode_of w) refl h
 
 -- and back
-pub front_defined : (w : ℕ) (ws : List ℕ) (f : Form) → decode_of w ≡ Is f → defined_front ws ≡ length ws → defined_front (w ∷ ws) ≡ suc (length ws)
+pub front_defined : (w : ℕ) (ws : List ℕ) (f : Form) → decode_of w ≡ Some f → defined_front ws ≡ length ws → defined_front (w ∷ ws) ≡ suc (length ws)
 unfolding defined_front
 front_defined w ws f e h = rw (e, defined_front, h)
 
-form_short : (d : Decoded) → length (form_line d) ≤ 100
-form_short (Is f) = line_short f
-form_short Undefined = zero-le
+form_short : (d : Option Form) → length (form_line d) ≤ 100
+form_short (Some f) = line_short f
+form_short None = zero-le
 
 pub listing_short : (words : List ℕ) → length (listing_of words) ≤ 100 * length words
 unfolding listing_of
@@ -75,7 +70,7 @@ listing_short [] = zero-le
 listing_short (w ∷ ws) = rw length-append (omega (arith, form_short (decode_of w), listing_short ws))
 
 -- a line that fits is put
-module _ (out : List ℕ) (at w : ℕ) (f : Form) (e : decode_of w ≡ Is f) (room : at + length (line_of f) ≤ length out) where
+module _ (out : List ℕ) (at w : ℕ) (f : Form) (e : decode_of w ≡ Some f) (room : at + length (line_of f) ≤ length out) where
   word_put : listed_at out at w ≡ written (sets out at (line_of f)) (at + length (line_of f)) 0
   unfolding listed_at put_at room_for
   word_put = rw (e, listed_at, le-leb (at + length (line_of f)) (length out) room)
@@ -101,10 +96,10 @@ words_put out at (w ∷ ws) h room =
 
 -- no more words are defined than there are
 
-within_by : (w : ℕ) (ws : List ℕ) (d : Decoded) → decode_of w ≡ d → defined_front ws ≤ length ws → defined_front (w ∷ ws) ≤ suc (length ws)
+within_by : (w : ℕ) (ws : List ℕ) (d : Option Form) → decode_of w ≡ d → defined_front ws ≤ length ws → defined_front (w ∷ ws) ≤ suc (length ws)
 unfolding defined_front
-within_by w ws (Is f) e h = rw (e, defined_front) (omega arith)
-within_by w ws Undefined e h = rw (e, defined_front) zero-le
+within_by w ws (Some f) e h = rw (e, defined_front) (omega arith)
+within_by w ws None e h = rw (e, defined_front) zero-le
 
 pub front_within : (ws : List ℕ) → defined_front ws ≤ length ws
 unfolding defined_front

@@ -1,4 +1,5 @@
 -- The lines that are put: each is one line, counts, and says its number. Assumes nothing.
+use Rattle.std.proofs.Common.{Some}
 use Prim.Native.Nat.{ℕ, zero, suc, ◌+◌, ◌^◌, ◌≤◌, ◌<◌}
 use mathlib.Core.Bool.{Bool, true, false, cond, ◌&&◌, and-eq-true_iff, and-false}
 use mathlib.Core.List.{List, [], ◌∷◌, ◌++◌, append-nil}
@@ -9,10 +10,8 @@ use borrow.Author.Tests.{eq-eqb, leb-true, ne_eqb}
 use lib.Dec.{eqb, leb}
 use lib.ListN.{get_or, length}
 use Rattle.isa.specs.Decoding.{decode_of}
-use Rattle.isa.specs.declared.Decoded.TheVariants.{Is}
 use Rattle.isa.specs.declared.Form.{Form}
-use Rattle.text.specs.Lines.{line_text, starts}
-use Rattle.text.specs.declared.Line.TheVariants.{Is as IsLine}
+use Rattle.text.specs.Lines.{is_line, line_text, starts}
 use Rattle.text.proofs.OneLine.{is_empty, line_once as text-once, no_feed, one_line}
 use Rattle.text.proofs.Round.{line_back}
 use Rattle.session_lines.specs.LineFormats.{LineFormat, format_of, front_formats, line_for, word_format}
@@ -23,7 +22,7 @@ use Rattle.listing.proofs.OneLine.{line_letter}
 use Rattle.listing.proofs.RoundTrip.{round_trip}
 use Rattle.assembly.specs.Assembling.{content_at, front_content, word_content}
 use Rattle.assembly.specs.SourceLines.{in_front, is_ended, lines_of, passed_over}
-use Rattle.assembly.specs.declared.Content.TheVariants.{Number}
+use Rattle.assembly.specs.declared.reader.Content.TheVariants.{Number}
 use Rattle.assembly.proofs.Contents.{content_front, content_word}
 
 -- one line is the first of a text that begins with it
@@ -32,12 +31,12 @@ first_by : (b : ℕ) (s rest : List ℕ) (t : Bool) → eqb b 10 ≡ t → cond 
     → (one_line s ≡ true → lines_of (s ++ rest) ≡ s ∷ lines_of rest)
     → cond t ((b ∷ []) ∷ lines_of (s ++ rest)) (in_front b (lines_of (s ++ rest))) ≡ (b ∷ s) ∷ lines_of rest
 first_by b [] rest true q e more = refl
-first_by b (x ∷ s) rest true q e more = let z : ◌≡◌ {A = ℕ} 0 1 = cc in absurd (omega arith)
+first_by b (x ∷ s) rest true q e more = absurd cc
 first_by b s rest false q e more = ap (in_front b) (more e)
 
 pub first_of : (line rest : List ℕ) → one_line line ≡ true → lines_of (line ++ rest) ≡ line ∷ lines_of rest
 unfolding lines_of
-first_of [] rest e = let z : ◌≡◌ {A = ℕ} 0 1 = cc in absurd (omega arith)
+first_of [] rest e = absurd cc
 first_of (b ∷ s) rest e = first_by b s rest (eqb b 10) refl e (first_of s rest)
 
 -- a line that begins with a letter counts
@@ -91,12 +90,12 @@ module _ (i v : ℕ) where
       let key = (format_of i).key in
       let digits = (format_of i).digits in
       let line = line_for (format_of i) v in
-      let back : line_as (format_of i) (line ++ []) 0 ≡ IsLine v (0 + (length key + digits + 1))
+      let back : line_as (format_of i) (line ++ []) 0 ≡ is_line v (0 + (length key + digits + 1))
       = line_back key digits (format_of i).most v [] [] (omega (arith, wide i)) small in
       let size : 0 + (length key + digits + 1) ≡ length line = zero-add (length key + digits + 1) ∙ sym (length_for (format_of i) v) in
-      let read : line_as (format_of i) line 0 ≡ IsLine v (length line) = ap (λ (l : List ℕ). line_as (format_of i) l 0) (sym (append-nil line)) ∙ back ∙ ap (IsLine v) size in
+      let read : line_as (format_of i) line 0 ≡ is_line v (length line) = ap (λ (l : List ℕ). line_as (format_of i) l 0) (sym (append-nil line)) ∙ back ∙ ap (is_line v) size in
       content_front i line front_counts h ∙ ap (front_content (length line)) read ∙ rw (eq-eqb (length line) (length line) refl)
 
-pub word_says : (i w : ℕ) (f : Form) → 9 ≤ i → i < 265 → w < 2 ^ 32 → decode_of w ≡ Is f → content_at i (line_of f) ≡ Number w
+pub word_says : (i w : ℕ) (f : Form) → 9 ≤ i → i < 265 → w < 2 ^ 32 → decode_of w ≡ Some f → content_at i (line_of f) ≡ Number w
 word_says i w f h k small e =
     content_word i (line_of f) (letter_counts (line_of f) (line_letter f)) h k ∙ ap word_content (round_trip.reads_back w f small e)

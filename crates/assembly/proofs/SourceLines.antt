@@ -1,47 +1,56 @@
 -- The lines of a text, one after another. Assumes nothing.
-use Prim.Native.Nat.{ℕ, zero, suc, ◌+◌, ◌-◌, ◌≤◌, ◌<◌}
+use Rattle.std.proofs.Common.{Option, Some, None, ◌&&◌, map, sum}
+use Rattle.std.proofs.lemmas.List.Sums.{sum_by-cons}
+use Rattle.std.specs.List.{position_from, starts_with}
+use Prim.Native.Nat.{ℕ, zero, suc, ◌+◌, ◌≤◌, ◌<◌}
 use mathlib.Core.Bool.{Bool, true, false, cond}
 use mathlib.Core.List.{List, [], ◌∷◌}
 use mathlib.Core.Path.{◌≡◌, refl, ap, sym, ◌∙◌}
-use native.Mathlib.Numerals.{add-one}
 use native.Mathlib.Omega.{arith}
-use borrow.Author.Tests.{eq-eqb, ltb-false, ltb-true, ne_eqb}
-use lib.Dec.{eqb, ltb}
-use lib.ListN.{length, get_or, take, drop, drop_of_length-le, length-take}
-use lib.Seq.{drop-cons, drop-drop}
+use lib.Dec.{eqb}
+use lib.ListN.{length, take, drop, length-take}
 use Rattle.text.specs.Ascii.{ascii}
 use Rattle.text.specs.Lines.{starts}
 use Rattle.assembly.specs.SourceLines.{bytes_of, first_line, in_front, is_ended, lines_of, passed_over}
 
--- a turn of the search for a line's end
+-- the first line feed, and the end where there is none
 
-pub no_line : (s : List ℕ) (i : ℕ) → length s ≤ i → length (first_line (drop i s)) ≡ 0
+abbrev pub Feed : ℕ → Bool
+Feed b = eqb b 10
+
+-- the bytes of a first line that is i bytes behind, by where its line feed is found
+abbrev size_for : Option ℕ → ℕ → ℕ
+size_for (Some k) end = k + 1
+size_for None end = end
+
+size_by : (b : ℕ) (s : List ℕ) (i : ℕ) (t : Bool) → i + 1 + length (first_line s) ≡ size_for (position_from Feed (i + 1) s) (i + 1 + length s)
+    → i + suc (length (cond t [] (first_line s))) ≡ size_for (cond t (Some i) (position_from Feed (i + 1) s)) (i + suc (length s))
+size_by b s i true rest = omega arith
+size_by b s i false rest =
+    let more : (n : ℕ) → i + suc n ≡ i + 1 + n = λ n. omega arith in
+    more (length (first_line s)) ∙ rest ∙ ap (size_for (position_from Feed (i + 1) s)) (sym (more (length s)))
+
+size_from : (s : List ℕ) (i : ℕ) → i + length (first_line s) ≡ size_for (position_from Feed i s) (i + length s)
 unfolding first_line
-no_line s i h = rw (drop_of_length-le s h)
+size_from [] i = refl
+size_from (b ∷ s) i = size_by b s i (eqb b 10) (size_from s (i + 1))
 
-module _ (s : List ℕ) (i : ℕ) (h : i < length s) where
-  pub line_fed : get_or s i 0 ≡ 10 → length (first_line (drop i s)) ≡ 1
-  unfolding first_line
-  line_fed e = rw (drop-cons s i 0 h, eq-eqb _ _ e)
+pub size_fed : (s : List ℕ) (i : ℕ) → position_from Feed 0 s ≡ Some i → i + 1 ≡ length (first_line s)
+size_fed s i e = omega (arith, size_from s 0, ap (λ (r : Option ℕ). size_for r (0 + length s)) e)
 
-  pub line_on : (get_or s i 0 ≡ 10 → ⊥) → length (first_line (drop i s)) ≡ 1 + length (first_line (drop (i + 1) s))
-  unfolding first_line
-  line_on e = rw (add-one, drop-cons s i 0 h, ne_eqb _ _ e) (omega arith)
+pub size_unfed : (s : List ℕ) → position_from Feed 0 s ≡ None → length s ≡ length (first_line s)
+size_unfed s e = omega (arith, size_from s 0, ap (λ (r : Option ℕ). size_for r (0 + length s)) e)
 
-never : (t u : Bool) → u ≡ false → cond t u false ≡ false
-never true u e = e
-never false u e = refl
+and_as_cond : (t u : Bool) → cond t u false ≡ (t && u)
+and_as_cond true u = refl
+and_as_cond false u = refl
 
-pub starts_short : (key line : List ℕ) → length line < length key → starts key line ≡ false
+-- as std's test finds it
+pub starts_as : (key l : List ℕ) → starts key l ≡ starts_with eqb l key
 unfolding starts
-starts_short [] line h = absurd (omega arith)
-starts_short (k ∷ key) [] h = refl
-starts_short (k ∷ key) (b ∷ line) h = never (eqb k b) (starts key line) (starts_short key line (omega arith))
-
-pub empty_unended : (line : List ℕ) → length line ≡ 0 → is_ended line ≡ false
-unfolding is_ended
-empty_unended [] h = refl
-empty_unended (b ∷ line) h = absurd (omega arith)
+starts_as [] l = refl
+starts_as (k ∷ key) [] = refl
+starts_as (k ∷ key) (b ∷ l) = ap (λ (t : Bool). cond (eqb k b) t false) (starts_as key l) ∙ and_as_cond (eqb k b) (starts_with eqb l key)
 
 pub ended_long : (line : List ℕ) → is_ended line ≡ true → 1 ≤ length line
 unfolding is_ended
@@ -74,26 +83,8 @@ first_front (b ∷ s) = ap (λ (l : List ℕ). b ∷ l) (by (eqb b 10) (first_fr
     by true rest = refl
     by false rest = rest
 
--- the part from a place up to the line's end is the line
-pub part_line : (s : List ℕ) (at end : ℕ) → end ≡ at + length (first_line (drop at s)) → take (end - at) (drop at s) ≡ first_line (drop at s)
-part_line s at end e =
-    let size : end - at ≡ length (first_line (drop at s)) = omega arith in
-    ap (λ (k : ℕ). take k (drop at s)) size ∙ first_front (drop at s)
-
--- behind the end of a text nothing stands
-pub behind_end : (s : List ℕ) (at : ℕ) → length s < at → take (length s - length s) (drop (length s) s) ≡ first_line (drop at s)
-unfolding first_line
-behind_end s at h =
-    let none : length s - length s ≡ 0 = omega arith in
-    let past : length s ≤ at = omega arith in
-    rw (none, drop_of_length-le s past)
-
 pub first_within : (s : List ℕ) → length (first_line s) ≤ length s
 first_within s = omega (arith, ap length (first_front s), length-take (length (first_line s)) s)
-
-pub first_some : (s : List ℕ) (at : ℕ) → at < length s → 1 ≤ length (first_line (drop at s))
-unfolding first_line
-first_some s at h = rw (drop-cons s at 0 h) (omega arith)
 
 -- the lines of a text are its first line and the lines behind it
 
@@ -108,34 +99,60 @@ unfolding lines_of first_line
 split b [] = split_by b [] (eqb b 10) refl
 split b (x ∷ s) = split_by b (x ∷ s) (eqb b 10) (ap (in_front b) (split x s))
 
-pub split_at : (s : List ℕ) (at : ℕ) → at < length s
-    → lines_of (drop at s) ≡ first_line (drop at s) ∷ lines_of (drop (at + length (first_line (drop at s))) s)
-split_at s at h =
-    let e : drop at s ≡ get_or s at 0 ∷ drop (suc at) s = drop-cons s at 0 h in
-    ap lines_of e
-    ∙ split (get_or s at 0) (drop (suc at) s)
-    ∙ ap (λ (l : List ℕ). first_line l ∷ lines_of (drop (length (first_line l)) l)) (sym e)
-    ∙ ap (λ (l : List ℕ). first_line (drop at s) ∷ lines_of l) (drop-drop (length (first_line (drop at s))) at s)
+pub split_first : (s : List ℕ) → 0 < length s → lines_of s ≡ first_line s ∷ lines_of (drop (length (first_line s)) s)
+split_first [] h = absurd (omega arith)
+split_first (b ∷ s) h = split b s
 
--- a line more, and none behind the end
+pub no_lines : (s : List ℕ) → length s ≡ 0 → lines_of s ≡ []
+unfolding lines_of
+no_lines [] h = refl
+no_lines (b ∷ s) h = absurd (omega arith)
 
-bytes_none : (n : ℕ) → bytes_of n [] ≡ 0
+-- how many bytes lines have
+
+abbrev pub total : List (List ℕ) → ℕ
+total [] = 0
+total (line ∷ lines) = length line + total lines
+
+total_front : (b : ℕ) (lines : List (List ℕ)) → total (in_front b lines) ≡ suc (total lines)
+total_front b [] = omega arith
+total_front b (line ∷ lines) = omega arith
+
+total_by : (b : ℕ) (s : List ℕ) (t : Bool) → total (lines_of s) ≡ length s → total (cond t ((b ∷ []) ∷ lines_of s) (in_front b (lines_of s))) ≡ suc (length s)
+total_by b s true rest = omega (arith, rest)
+total_by b s false rest = omega (arith, total_front b (lines_of s), rest)
+
+pub total_all : (s : List ℕ) → total (lines_of s) ≡ length s
+unfolding lines_of
+total_all [] = refl
+total_all (b ∷ s) = total_by b s (eqb b 10) (total_all s)
+
+pub sum_total : (n : ℕ) (lines : List (List ℕ)) → sum (map length (take n lines)) ≡ bytes_of n lines
 unfolding bytes_of
-bytes_none zero = refl
-bytes_none (suc n) = refl
+sum_total zero lines = refl
+sum_total (suc n) [] = refl
+sum_total (suc n) (line ∷ lines) = sum_by-cons (λ x. x) (length line) (map length (take n lines)) ∙ ap (λ (k : ℕ). length line + k) (sum_total n lines)
 
-bytes_by : (n : ℕ) (s : List ℕ) (at : ℕ) (b : Bool) → ltb at (length s) ≡ b
-    → bytes_of (suc n) (lines_of (drop at s)) ≡ length (first_line (drop at s)) + bytes_of n (lines_of (drop (at + length (first_line (drop at s))) s))
-unfolding bytes_of lines_of
-bytes_by n s at true q = rw (split_at s at (ltb-true at (length s) q))
-bytes_by n s at false q =
-    let h : length s ≤ at = ltb-false at (length s) q in
-    let e : drop at s ≡ [] = drop_of_length-le s h in
-    let none : length (first_line (drop at s)) ≡ 0 = no_line s at h in
-    let past : length s ≤ at + length (first_line (drop at s)) = omega arith in
-    let f : drop (at + length (first_line (drop at s))) s ≡ [] = drop_of_length-le s past in
-    rw (f, none, e, bytes_none n)
+bytes_within : (n : ℕ) (lines : List (List ℕ)) → bytes_of n lines ≤ total lines
+unfolding bytes_of
+bytes_within zero lines = omega arith
+bytes_within (suc n) [] = omega arith
+bytes_within (suc n) (line ∷ lines) = omega (arith, bytes_within n lines)
 
-pub bytes_turn : (n : ℕ) (s : List ℕ) (at : ℕ)
-    → bytes_of (suc n) (lines_of (drop at s)) ≡ length (first_line (drop at s)) + bytes_of n (lines_of (drop (at + length (first_line (drop at s))) s))
-bytes_turn n s at = bytes_by n s at (ltb at (length s)) refl
+pub bytes_short : (n : ℕ) (s : List ℕ) → bytes_of n (lines_of s) ≤ length s
+bytes_short n s = omega (arith, bytes_within n (lines_of s), total_all s)
+
+-- and how many there are, at most
+
+count_front : (b : ℕ) (lines : List (List ℕ)) → length (in_front b lines) ≤ suc (length lines)
+count_front b [] = omega arith
+count_front b (line ∷ lines) = omega arith
+
+count_by : (b : ℕ) (s : List ℕ) (t : Bool) → length (lines_of s) ≤ length s → length (cond t ((b ∷ []) ∷ lines_of s) (in_front b (lines_of s))) ≤ suc (length s)
+count_by b s true rest = omega arith
+count_by b s false rest = omega (arith, count_front b (lines_of s))
+
+pub count_short : (s : List ℕ) → length (lines_of s) ≤ length s
+unfolding lines_of
+count_short [] = omega arith
+count_short (b ∷ s) = count_by b s (eqb b 10) (count_short s)

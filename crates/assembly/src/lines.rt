@@ -1,90 +1,76 @@
 // The lines of a text.
-ghost use Rattle.std.specs.Prelude.{◌≡◌, ◌+◌, length, drop};
-ghost use Rattle.text.specs.Lines.{starts};
+ghost use Rattle.std.specs.Prelude.{◌≡◌, length, drop};
+ghost use Rattle.std.specs.Iterator.{YieldsFirstRef, item_count};
 ghost use Rattle.assembly.specs.SourceLines.{bytes_of, first_line, is_ended, lines_of, passed_over, without_feed};
 
-// The place behind the line that starts at at.
-pub(crate) fn line_end(s: &[u8], at: usize) -> usize
-    ensures { result ≡ at + length (first_line (drop at s.now)) }
-{
-    let mut i = at;
-    while i < s.len() {
-        if s[i] == b'\n' {
-            return i + 1;
+// The lines of a text, each with its line feed; what stands behind the last line feed is an unended line.
+#[derive(Drop)]
+pub(crate) struct Lines<'a> {
+    pub(crate) rest: &'a [u8],
+}
+
+impl<'a> Iterator for Lines<'a> {
+    type Item = &'a [u8];
+
+    ghost next_gives = { YieldsFirstRef (λ s. lines_of s.rest.now) };
+
+    ghost remaining = { item_count (λ s. lines_of s.rest.now) };
+
+    fn next(&mut self) -> Option<&'a [u8]> {
+        if self.rest.is_empty() {
+            return None;
         }
-        i += 1;
+        let (line, rest) = self.rest.split_at(first_size(self.rest));
+        self.rest = rest;
+        Some(line)
     }
-    i
+}
+
+// How many bytes the first line has.
+fn first_size(s: &[u8]) -> usize
+    ensures { result ≡ length (first_line s.now) }
+{
+    match s.iter().position(|b| *b == b'\n') {
+        Some(i) => i + 1,
+        None => s.len(),
+    }
 }
 
 // The line that starts at at; the empty one if the text ends there.
 pub fn line_at(s: &[u8], at: usize) -> &[u8]
     ensures { result.now ≡ first_line (drop at s.now) }
 {
-    if at <= s.len() {
-        let end = line_end(s, at);
-        &s[at..end]
-    } else {
-        let end = s.len();
-        &s[end..]
-    }
+    let rest = s.get(at..).unwrap_or(b"");
+    &rest[..first_size(rest)]
 }
 
 // The place behind the first so many lines.
 pub(crate) fn behind_lines(s: &[u8], count: usize) -> usize
     ensures { result ≡ bytes_of count (lines_of s.now) }
 {
-    let mut at = 0;
-    let mut i = 0;
-    while i < count {
-        at = line_end(s, at);
-        i += 1;
-    }
-    at
-}
-
-// Whether a line begins with the key.
-fn begins(line: &[u8], key: &[u8]) -> bool
-    ensures { result ≡ starts key.now line.now }
-{
-    if key.len() <= line.len() {
-        text::key_at(line, 0, key)
-    } else {
-        false
-    }
+    Lines { rest: s }.take(count).map(|line| line.len()).sum()
 }
 
 // Whether a line has its line feed.
+#[tactic(auto, unfolding(crate::specs::SourceLines::is_ended))]
 pub fn is_ended(line: &[u8]) -> bool
     ensures { result ≡ is_ended line.now }
 {
-    let n = line.len();
-    if n == 0 { false } else { line[n - 1] == b'\n' }
+    line.ends_with(b"\n")
 }
 
 // A line without its line feed.
+#[tactic(auto, unfolding(crate::specs::SourceLines::without_feed, crate::specs::SourceLines::is_ended))]
 pub fn without_feed(line: &[u8]) -> &[u8]
     ensures { result.now ≡ without_feed line.now }
 {
-    if is_ended(line) {
-        let end = line.len() - 1;
-        &line[..end]
-    } else {
-        line
-    }
+    line.strip_suffix(b"\n").unwrap_or(line)
 }
 
 // Whether a line is passed over.
+#[tactic(auto, using(crate::proofs::SourceLines::starts_as), unfolding(crate::specs::SourceLines::passed_over))]
 pub(crate) fn passed_over(line: &[u8]) -> bool
     ensures { result ≡ passed_over line.now }
 {
-    if is_ended(line) {
-        if begins(line, b"\n") {
-            true
-        } else {
-            begins(line, b"//")
-        }
-    } else {
-        false
-    }
+    is_ended(line) && (line.starts_with(b"\n") || line.starts_with(b"//"))
 }

@@ -7,21 +7,24 @@ ghost use Rattle.assembly.specs.Assembling.{content_at, front_content, numbers_f
 ghost use Rattle.assembly.specs.Inside.Numbers.{Few, read_by};
 ghost use Rattle.assembly.specs.SourceLines.{lines_of};
 
-use super::{Content, Numbers, Refusal, lines};
-use listing::Read;
-use text::Line;
+use super::Refusal;
+use super::lines::{Lines, passed_over};
+
+// What a line says.
+#[derive(Clone, Copy, Debug, PartialEq, Eq)]
+enum Content {
+    Passed,
+    Number(u64),
+    Unexpected,
+}
 
 // What a line says if it is to be the line of a session's start with index i.
 fn front_content(line: &[u8], i: usize) -> Content
     ensures { result ≡ front_content (length line.now) (line_of (format_of i) line.now 0) }
 {
     match session_lines::nth_line(line, 0, i) {
-        Line::Is { value, next } => if next == line.len() {
-            Content::Number(value)
-        } else {
-            Content::Unexpected
-        },
-        Line::Wrong => Content::Unexpected,
+        Some(found) if found.next == line.len() => Content::Number(found.value),
+        _ => Content::Unexpected,
     }
 }
 
@@ -30,62 +33,59 @@ fn word_content(line: &[u8]) -> Content
     ensures { result ≡ word_content (read_of line.now) }
 {
     match listing::read_line(line) {
-        Read::Word(w) => Content::Number(w as u64),
-        Read::BadLine => Content::Unexpected,
+        Ok(word) => Content::Number(u64::from(word)),
+        Err(_) => Content::Unexpected,
     }
 }
 
 // What a line says where i numbers were read.
-fn content(line: &[u8], i: usize) -> Content
+#[tactic(auto, unfolding(crate::specs::Assembling::content_at))]
+fn content_of(line: &[u8], i: usize) -> Content
     ensures { result ≡ content_at i line.now }
 {
-    if lines::passed_over(line) {
-        Content::Passed
-    } else if i < 9 {
-        front_content(line, i)
-    } else if i < 265 {
-        word_content(line)
-    } else {
-        Content::Unexpected
+    if passed_over(line) {
+        return Content::Passed;
+    }
+    match i {
+        0..=8 => front_content(line, i),
+        9..=264 => word_content(line),
+        _ => Content::Unexpected,
     }
 }
 
-// Reads the lines, and puts the numbers of those that count into numbers.
-pub(crate) fn read_numbers(s: &[u8], numbers: &mut [u64]) -> Numbers
-    requires s_len_bound { length s.now ≤ 1048576 }
-    requires numbers_len { length numbers.old ≡ 265 }
+// Reads the lines, puts the numbers of those that count into numbers, and answers how many there are.
+pub(crate) fn read_numbers(s: &[u8], numbers: &mut [u64; 265]) -> Result<usize, Refusal>
+    requires { length s.now ≤ 1048576 }
     ensures few { Few result }
     ensures numbers_after { read_by result numbers.new ≡ numbers_from 1 0 0 (lines_of s.now) }
 {
     let mut at = 0;
     let mut number = 1;
     let mut i = 0;
-    while at < s.len() {
-        let end = lines::line_end(s, at);
-        match content(&s[at..end], i) {
+    for line in (Lines { rest: s }) {
+        match content_of(line, i) {
             Content::Passed => {},
             Content::Number(v) => {
                 numbers[i] = v;
                 i += 1;
             },
             Content::Unexpected => {
-                return Numbers::Not(Refusal::Wrong {
+                return Err(Refusal::Wrong {
                     number,
                     expected: i,
                     at,
                 });
             },
         }
-        at = end;
+        at += line.len();
         number += 1;
     }
     if i < 9 {
-        Numbers::Not(Refusal::Wrong {
+        return Err(Refusal::Wrong {
             number,
             expected: i,
             at,
-        })
-    } else {
-        Numbers::Read(i)
+        });
     }
+    Ok(i)
 }

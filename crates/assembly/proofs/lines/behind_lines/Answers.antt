@@ -1,29 +1,23 @@
--- `assembly::lines::behind_lines` meets its contract. The invariant: the bytes of all lines are those passed and those of the lines left.
--- Assumes nothing.
-use Prim.Native.Nat.{ℕ, suc, ◌+◌, ◌-◌}
-use mathlib.Core.Path.{◌≡◌, ap}
-use native.Mathlib.Omega.{arith}
-use lib.ListN.{drop}
-use Rattle.assembly.specs.SourceLines.{bytes_of, lines_of}
-use Rattle.assembly.proofs.SourceLines.{bytes_turn}
+use Rattle.std.proofs.Common.{rules, tests, of_calls, arith, ◌∙◌, length}
+use Rattle.std.proofs.lemmas.Iterator.{YieldsList-from_take, YieldsList-from_map}
+use Rattle.std.proofs.lemmas.Iterator.Consumers.{YieldsList-from_first, sum_from_yields_List, fits_from_yields_list}
+use Rattle.assembly.specs.SourceLines.{lines_of}
+use Rattle.assembly.specs.declared.lines.Lines.{Lines}
+use Rattle.assembly.proofs.SourceLines.{bytes_short, sum_total}
 use Rattle.assembly.proofs.lines.behind_lines.Goals as goal
 
-pub loop-i-preserved : goal.loop-i-preserved
-loop-i-preserved c = let l = c in
-    let a = l.args in
-    let s = a.s.now in
-    let at = l.loop-i.at in
-    let n = a.count - (l.loop-i.i + 1) in
-    let left : a.count - l.loop-i.i ≡ suc n = omega arith in
-    let turn = bytes_turn n s at in
-    let there = ap (λ (k : ℕ). bytes_of n (lines_of (drop k s))) c.line_end-at.ensures in
-    let lines = ap (λ (k : ℕ). bytes_of k (lines_of (drop at s))) left in
-    (omega arith, omega (arith, l.loop-i.invariant.1, c.line_end-at.ensures, turn, there, lines))
+pub sum-requires : goal.sum-requires
+sum-requires c =
+    let s = c.args.s.now in
+    record {
+      can = search of_calls;
+      finite = search of_calls;
+      fits = fits_from_yields_list c.map.result _ (YieldsList-from_map _ length (YieldsList-from_take c.args.count (YieldsList-from_first (λ x. x.now) (λ (l : Lines). lines_of l.rest.now) (lines_of s) (cc)) (cc)) c.map.ensures.closure (λ x r q k. search (rules, tests)))
+          (omega (arith, sum_total c.args.count (lines_of s), bytes_short c.args.count s));
+    }
 
 pub returns : goal.returns
-unfolding bytes_of
-returns c = let l = c in
-    let a = l.args in
-    let none : a.count - l.loop-i.i ≡ 0 = omega arith in
-    let lines : bytes_of (a.count - l.loop-i.i) (lines_of (drop l.loop-i.at a.s.now)) ≡ 0 = rw none in
-    omega (arith, l.loop-i.invariant.1, lines)
+returns c =
+    let s = c.args.s.now in
+    sum_from_yields_List c.map.result _ c.sum.ensures.ran (YieldsList-from_map _ length (YieldsList-from_take c.args.count (YieldsList-from_first (λ x. x.now) (λ (l : Lines). lines_of l.rest.now) (lines_of s) (cc)) (cc)) c.map.ensures.closure (λ x r q k. search (rules, tests)))
+    ∙ sum_total c.args.count (lines_of s)

@@ -1,15 +1,17 @@
--- `assembly::lines::line_at` meets its contract. Assumes nothing.
-use native.Mathlib.Omega.{arith}
-use lib.ListN.{drop, length-drop}
-use Rattle.assembly.proofs.SourceLines.{behind_end, first_within, part_line}
+use Rattle.std.proofs.Common.{ℕ, ◌≡◌, ◌∙◌, ap, sym, arith, take, drop}
+use Rattle.std.proofs.lemmas.Grind.{common_steps}
+use lib.Seq.{length-take-le}
+use Rattle.assembly.specs.SourceLines.{first_line}
+use Rattle.assembly.proofs.SourceLines.{first_front, first_within}
 use Rattle.assembly.proofs.lines.line_at.Goals as goal
 
 pub slice_bounds-result-end : goal.slice_bounds-result-end
-slice_bounds-result-end c = let a = c.args in
-    omega (arith, first_within (drop a.at a.s.now), length-drop a.at a.s.now, c.line_end-end.ensures)
+slice_bounds-result-end c =
+    let rest = c.unwrap_or-rest.result.now in
+    sym (length-take-le c.first_size.result rest (omega (arith, c.first_size.ensures, first_within rest)))
 
-pub returns-then-at-s : goal.returns-then-at-s
-returns-then-at-s c = part_line _ _ _ c.line_end-end.ensures
-
-pub returns-else-at-s : goal.returns-else-at-s
-returns-else-at-s c = behind_end _ _ c.if-at-s.false
+pub returns : goal.returns
+returns c =
+    let rest = c.unwrap_or-rest.result.now in
+    let behind : rest ≡ drop c.args.at c.args.s.now = grind (arith, common_steps) in
+    ap (λ (n : ℕ). take n rest) c.first_size.ensures ∙ first_front rest ∙ ap first_line behind
