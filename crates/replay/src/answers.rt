@@ -1,9 +1,10 @@
-// What is written of the state, and the answers to what is asked.
+// What is written of the state and of calls, and the answers to what is asked.
 use super::kinds::{AnswerKind, FormKind, SettingKind};
 use super::lines::Question;
 use super::player::Player;
 use super::writer::Writer;
-use isa::{Decoded, Form, Mode};
+use isa::{Form, Mode};
+use machine::Code;
 
 // The lines that every state has.
 fn front(player: &Player<'_>) -> [(SettingKind, u64); 11] {
@@ -48,6 +49,15 @@ pub(crate) fn put_state(writer: &mut Writer<'_>, player: &Player<'_>) {
     put_items(writer, SettingKind::Log, player.history.used());
 }
 
+// Puts the code of a step, run or step back, and for a run how many words were done.
+pub(crate) fn put_code(writer: &mut Writer<'_>, code: Code, count: Option<usize>) {
+    let code = u64::from(u32::from(code));
+    match count {
+        Some(count) => writer.put(AnswerKind::Ran, &[code, count as u64]),
+        None => writer.put(AnswerKind::Code, &[code]),
+    }
+}
+
 // The mode of a form's line is the field of the word.
 fn mode_number(mode: Mode) -> u64 {
     match mode {
@@ -86,17 +96,15 @@ fn put_form(writer: &mut Writer<'_>, form: Form) {
 }
 
 fn put_decoded(writer: &mut Writer<'_>, word: u32) {
-    let decoded = isa::decode(word);
-    writer.put(AnswerKind::Decoded, &[u64::from(decoded.number())]);
-    if let Decoded::Is(form) = decoded {
+    writer.put(AnswerKind::Decoded, &[u64::from(isa::word_code(word))]);
+    if let Some(form) = isa::decode(word) {
         put_form(writer, form);
     }
 }
 
 fn put_encoded(writer: &mut Writer<'_>, form: Form) {
-    let encoded = isa::encode(form);
-    let code = u64::from(encoded.number());
-    let word = u64::from(encoded.word());
+    let code = u64::from(isa::form_code(form));
+    let word = u64::from(isa::form_word(form));
     writer.put(AnswerKind::Encoded, &[code, word]);
 }
 
@@ -109,7 +117,7 @@ fn put_reached(writer: &mut Writer<'_>, player: &Player<'_>, pointer: u64) {
     } else {
         (pointer % 0x100_0000_0000_0000).wrapping_sub(base)
     };
-    let sum = checksum::with_bytes(0, part);
+    let sum = checksum::with_numbers(0, part);
     writer.put(AnswerKind::Reached, &[start, part.len() as u64, sum]);
 }
 

@@ -1,6 +1,7 @@
-// Collects calls for a list: each as its number for `simulator::play`, beside the words that they take in order.
-use super::lines::Call;
+// Collects calls for a list, as `simulator::play` takes them: beside the words that they take in order.
+use super::lines;
 use super::memory::Memory;
+use simulator::Call;
 
 // The most calls that a list has, and words that they take.
 pub(crate) const MOST_CALLS: usize = 0x1000;
@@ -9,13 +10,13 @@ pub(crate) const MOST_TAKEN: usize = 0x4000;
 
 #[derive(Drop)]
 pub(crate) struct CallList<'a> {
-    calls: Memory<'a, usize>,
+    calls: Memory<'a, Call>,
     words: Memory<'a, u32>,
 }
 
 impl<'a> CallList<'a> {
     pub(crate) fn new(
-        calls: &'a mut [usize; MOST_CALLS],
+        calls: &'a mut [Call; MOST_CALLS],
         words: &'a mut [u32; MOST_TAKEN],
     ) -> CallList<'a> {
         CallList {
@@ -28,7 +29,7 @@ impl<'a> CallList<'a> {
         self.calls.count() == 0
     }
 
-    pub(crate) fn calls(&self) -> &[usize] {
+    pub(crate) fn calls(&self) -> &[Call] {
         self.calls.used()
     }
 
@@ -38,28 +39,27 @@ impl<'a> CallList<'a> {
     }
 
     // Whether a call is not one too many for the list, and does not take too many words.
-    pub(crate) fn has_room(&self, call: Call) -> bool {
+    pub(crate) fn has_room(&self, call: lines::Call) -> bool {
         let taken = match call {
-            Call::Word(_) => 1,
-            Call::Run(count) => count,
-            Call::Back => 0,
+            lines::Call::Word(_) => 1,
+            lines::Call::Run(count) => count,
+            lines::Call::Back => 0,
         };
         self.calls.room() != 0 && taken <= self.words.room()
     }
 
     // Adds a call. A run takes its words now: the listed words may change before it is played.
-    pub(crate) fn push(&mut self, call: Call, list: &Memory<'_, u32>) {
+    pub(crate) fn push(&mut self, call: lines::Call, list: &Memory<'_, u32>) {
         match call {
-            Call::Word(word) => {
-                self.calls.push(simulator::STEP);
+            lines::Call::Word(word) => {
+                self.calls.push(Call::Step);
                 self.words.push(word);
             },
-            Call::Run(count) => {
-                let words = list.first(count);
-                self.calls.push(words.len().saturating_add(simulator::RUN));
-                self.words.extend(words);
+            lines::Call::Run(count) => {
+                self.calls.push(Call::Run(count));
+                self.words.extend(list.first(count));
             },
-            Call::Back => self.calls.push(simulator::BACK),
+            lines::Call::Back => self.calls.push(Call::Back),
         }
     }
 

@@ -53,7 +53,7 @@ fn play_fresh(rt: &HostRuntime, script: &[u8]) {
     let mut data = [0u8; MOST_DATA];
     let mut history = [0u64; MOST_HISTORY];
     let mut list = [0u32; MOST_LISTED];
-    let mut calls = [0usize; MOST_CALLS];
+    let mut calls = [simulator::Call::Back; MOST_CALLS];
     let mut words = [0u32; MOST_TAKEN];
     let player = Player::new(&mut tags, &mut data, &mut history, &mut list);
     let calls = CallList::new(&mut calls, &mut words);

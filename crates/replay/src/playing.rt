@@ -5,26 +5,18 @@ use super::kinds::AnswerKind;
 use super::lines::{Call, Lent, Line, Setting};
 use super::player::Player;
 use super::writer::Writer;
+use machine::Code;
 
 #[derive(Drop)]
 pub(crate) struct Playing<'a> {
     player: Player<'a>,
     calls: CallList<'a>,
     writer: Writer<'a>,
-    // How it is played, which a fresh start leaves as it is: whether a state is written after a call or a list of calls, whether
-    // calls are collected, and not played by themselves, and what a list is lent.
+    // Whether a state is written after a call or a list of calls. This and the next two a fresh start leaves as they are.
     dump: bool,
+    // Whether calls are collected, and not played by themselves.
     collect: bool,
     lent: Lent,
-}
-
-// Puts the code of a step, run or step back, and for a run how many words were done.
-fn put_code(writer: &mut Writer<'_>, code: u32, ran: Option<usize>) {
-    let code = u64::from(code);
-    match ran {
-        Some(count) => writer.put(AnswerKind::Ran, &[code, count as u64]),
-        None => writer.put(AnswerKind::Code, &[code]),
-    }
 }
 
 impl<'a> Playing<'a> {
@@ -52,29 +44,32 @@ impl<'a> Playing<'a> {
 
     // Makes a call, and puts its answer.
     fn call(&mut self, call: Call) {
-        let (code, ran) = self.player.call(call);
-        put_code(&mut self.writer, code.number(), ran);
+        let ran = self.player.call(call);
+        let count = matches!(call, Call::Run(_)).then_some(ran.count);
+        answers::put_code(&mut self.writer, ran.code, count);
         self.put_dump();
     }
 
     // Plays the list of calls, lent as many places and words as `lend` allows, and puts its answer.
     fn play_list(&mut self) {
-        let mut codes = [0u32; MOST_CALLS];
+        let mut codes = [Code::Done; MOST_CALLS];
         let mut counts = [0usize; MOST_CALLS];
-        let (code, count) = self.player.play(
+        let played = self.player.play(
             self.calls.calls(),
             self.calls.words(self.lent.words),
             &mut codes[..self.lent.codes.min(MOST_CALLS)],
             &mut counts[..self.lent.counts.min(MOST_CALLS)],
         );
-        self.writer.put(
-            AnswerKind::Played,
-            &[u64::from(code.number()), count as u64],
-        );
-        let answers = self.calls.calls().iter().zip(&codes).zip(&counts);
-        for ((call, code), count) in answers.take(count) {
-            let ran = (simulator::RUN <= *call).then_some(*count);
-            put_code(&mut self.writer, *code, ran);
+        let (code, count) = match played {
+            Ok(count) => (0, count),
+            Err(error) => (u32::from(error), 0),
+        };
+        self.writer
+            .put(AnswerKind::Played, &[u64::from(code), count as u64]);
+        let played = self.calls.calls().iter().zip(&codes).zip(&counts);
+        for ((call, code), count) in played.take(count) {
+            let count = matches!(call, simulator::Call::Run(_)).then_some(*count);
+            answers::put_code(&mut self.writer, *code, count);
         }
         self.calls.clear();
         self.put_dump();

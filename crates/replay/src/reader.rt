@@ -4,40 +4,37 @@ use super::lines::{
     Call, Lent, Line, MOST_DATA, MOST_HISTORY, MOST_LISTED, MOST_TAGS, Question, Setting,
 };
 use isa::{Form, Mode};
-use text::Hex;
 
-// The number of so many digits behind a separator, and the text behind it.
+// The number of so many digits behind a separator, and the text behind it. No width in the table is above 16; without the test that
+// would have to be proved.
 fn number(text: &[u8], separator: u8, width: usize) -> Option<(u64, &[u8])> {
     let (first, rest) = text.split_first()?;
     if *first != separator || rest.len() < width || 16 < width {
         return None;
     }
-    match text::hex_at(rest, 0, width) {
-        Hex::Value(value) => Some((value, &rest[width..])),
-        Hex::NotHex => None,
-    }
+    Some((text::hex_at(rest, 0, width)?, &rest[width..]))
 }
 
 // The numbers of a line of a kind, with zeros behind them.
 fn numbers(text: &[u8], kind: impl Kind) -> Option<[u64; 5]> {
     let shape = kind.shape();
     let mut rest = text.strip_prefix(shape.key)?;
-    let mut numbers = [0; 5];
+    let mut values = [0; 5];
     let mut separator = b'=';
-    for (place, width) in numbers.iter_mut().zip(shape.widths) {
+    for (place, width) in values.iter_mut().zip(shape.widths) {
         let (value, behind) = number(rest, separator, *width)?;
         *place = value;
         rest = behind;
         separator = b' ';
     }
-    if rest.is_empty() { Some(numbers) } else { None }
+    if rest.is_empty() { Some(values) } else { None }
 }
 
 // The kind of a line among some, and its numbers.
 fn find<K: Kind + Copy>(kinds: &[K], text: &[u8]) -> Option<(K, [u64; 5])> {
     kinds
         .iter()
-        .find_map(|kind| numbers(text, *kind).map(|found| (*kind, found)))
+        .find_map(|kind| numbers(text, *kind).map(|values| (*kind, values)))
 }
 
 fn switch(v: u64) -> Option<bool> {

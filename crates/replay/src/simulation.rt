@@ -1,77 +1,42 @@
 // The calls of the simulator.
 use super::lines::Call;
 use super::player::Player;
-use machine::Code;
-use simulator::{PlayCode, Ran};
+use machine::{Code, Setup};
+use simulator::{PlayError, Ran};
 
 impl Player<'_> {
-    fn step(&mut self, word: u32) -> Code {
-        let end = simulator::step(
-            self.machine,
-            word,
-            self.data.used_mut(),
-            self.tags.used_mut(),
-            self.history.used_mut(),
-        );
-        self.machine = end.machine;
-        end.code
+    pub(crate) fn call(&mut self, call: Call) -> Ran {
+        let history = self.history.used_mut();
+        let mut setup = Setup {
+            machine: self.machine,
+            bytes: self.data.used_mut(),
+            tags: self.tags.used_mut(),
+        };
+        let ran = match call {
+            Call::Word(word) => simulator::uncounted(simulator::step(&mut setup, word, history)),
+            Call::Run(count) => simulator::run(&mut setup, self.list.first(count), history),
+            Call::Back => simulator::uncounted(simulator::step_back(&mut setup, history)),
+        };
+        self.machine = setup.machine;
+        ran
     }
 
-    // Runs the first listed words.
-    fn run(&mut self, count: usize) -> Ran {
-        let end = simulator::run(
-            self.machine,
-            self.list.first(count),
-            self.data.used_mut(),
-            self.tags.used_mut(),
-            self.history.used_mut(),
-        );
-        self.machine = end.machine;
-        end
-    }
-
-    fn step_back(&mut self) -> Code {
-        let end = simulator::step_back(
-            self.machine,
-            self.data.used_mut(),
-            self.tags.used_mut(),
-            self.history.used(),
-        );
-        self.machine = end.machine;
-        end.code
-    }
-
-    // Makes a call, and answers its code, and for a run how many words were done.
-    pub(crate) fn call(&mut self, call: Call) -> (Code, Option<usize>) {
-        match call {
-            Call::Word(word) => (self.step(word), None),
-            Call::Run(count) => {
-                let ran = self.run(count);
-                (ran.code, Some(ran.count))
-            },
-            Call::Back => (self.step_back(), None),
-        }
-    }
-
-    // Plays a list of calls, and answers its code and how many were played.
+    // Plays a list of calls, and answers how many were played.
     pub(crate) fn play(
         &mut self,
-        calls: &[usize],
+        calls: &[simulator::Call],
         words: &[u32],
-        codes: &mut [u32],
+        codes: &mut [Code],
         counts: &mut [usize],
-    ) -> (PlayCode, usize) {
-        let end = simulator::play(
-            self.machine,
-            calls,
-            words,
-            self.data.used_mut(),
-            self.tags.used_mut(),
-            self.history.used_mut(),
-            codes,
-            counts,
-        );
-        self.machine = end.machine;
-        (end.code, end.count)
+    ) -> Result<usize, PlayError> {
+        let history = self.history.used_mut();
+        let mut setup = Setup {
+            machine: self.machine,
+            bytes: self.data.used_mut(),
+            tags: self.tags.used_mut(),
+        };
+        let played = simulator::play(&mut setup, calls, words, history, codes, counts);
+        self.machine = setup.machine;
+        played
     }
 }

@@ -1,5 +1,5 @@
 // Writes lines to standard output, by way of a buffer.
-ghost use Rattle.std.specs.Prelude.{◌≡◌, ◌≤◌};
+ghost use Rattle.std.specs.Prelude.{◌≡◌, ◌≤◌, length};
 
 use super::kinds::Kind;
 use stdio::Output;
@@ -11,7 +11,7 @@ pub(crate) struct Writer<'a> {
     to: Output<'a>,
     buffer: [u8; ROOM],
     filled: usize,
-    ghost in_bounds: { filled ≤ 65536 },
+    ghost in_bounds: { filled ≤ length buffer },
 }
 
 impl<'a> Writer<'a> {
