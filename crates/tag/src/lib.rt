@@ -72,7 +72,7 @@ pub fn choose(start: Tag, offset: u8, mask: u16) -> Tag
 }
 
 // Four random bits, and the seed after them.
-#[derive(Clone, Copy)]
+#[derive(Clone, Copy, Debug, PartialEq, Eq)]
 pub struct Drawn {
     pub bits: u8,
     pub seed: u16,
@@ -82,7 +82,7 @@ pub struct Drawn {
 pub fn draw(seed: u16) -> Drawn
     ensures { result ≡ drawn seed }
 {
-    let s = seed as u64;
+    let s = u64::from(seed);
     let four = bits::field((s >> 5) ^ (s >> 3) ^ (s >> 2) ^ s, 0, 4);
     Drawn {
         bits: four as u8,
