@@ -15,9 +15,7 @@ pub extern "C" fn mte_choose_tag(start: u32, offset: u32, mask: u32) -> u32
     if start > 15 || offset > 15 || mask > 65535 {
         return 16;
     }
-    let start = Tag {
-        value: start as u8,
-    };
+    let start = Tag { value: start as u8 };
     u32::from(tag::choose(start, offset as u8, mask as u16).value)
 }
 

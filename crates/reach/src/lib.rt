@@ -11,7 +11,9 @@ fn row_end(tags: &[u8], first: usize, tag: Tag) -> usize
     requires { first ≤ length tags.now }
     ensures { result ≡ first + in_row tag.value (drop first tags.now) }
 {
-    let row = tags[first..].iter().take_while(|byte| **byte % 16 == tag.value);
+    let row = tags[first..]
+        .iter()
+        .take_while(|byte| **byte % 16 == tag.value);
     first + row.count()
 }
 
