@@ -16,8 +16,8 @@ use Rattle.isa.specs.declared.TwoSourceOp.{TwoSourceOp}
 use Rattle.isa.specs.declared.TwoSourceOp.TheVariants.{Subp, Subps, Irg, Gmi}
 use Rattle.isa.specs.declared.TagStoreOp.{TagStoreOp}
 use Rattle.isa.specs.declared.TagStoreOp.TheVariants.{Stg, Stzg, St2g, Stz2g}
-use Rattle.isa.specs.declared.Decoded.{Decoded}
-use Rattle.isa.specs.declared.Decoded.TheVariants.{Is, Undefined}
+use Rattle.std.proofs.Common.{Option, Some, None}
+use Rattle.isa.specs.declared.Form.{Form}
 use Rattle.isa.specs.Words.{add_sub_bits, two_source_bits, ldg_bits, tag_store_bits, mode_bits, stgp_bits, granule_count, word_of}
 use Rattle.isa.specs.Decoding.{signed_amount, add_sub_at, two_source_at, ldg_at, tag_store_at, stgp_at, forms_at, form_of, decode_of}
 use Rattle.isa.specs.Inside.DecodingBranches.{if_bit21, add_sub_branch, two_source_branch, subps_branch, ldg_branch, mode_branch}
@@ -138,33 +138,33 @@ module _ (w : ℕ) (h : w < 2 ^ 32) where
 -- the rows as tests of w's bits, bits 31:22 apart
 
 module _ (top w : ℕ) where
-  abbrev add_sub_row : AddSubOp → Decoded → Decoded
-  add_sub_row op rest = cond (eqb top (add_sub_top op) && eqb (bits_at w 14 2) 0) (Is (add_sub_at op w)) rest
+  abbrev add_sub_row : AddSubOp → Option Form → Option Form
+  add_sub_row op rest = cond (eqb top (add_sub_top op) && eqb (bits_at w 14 2) 0) (Some (add_sub_at op w)) rest
 
-  abbrev two_source_row : TwoSourceOp → Decoded → Decoded
+  abbrev two_source_row : TwoSourceOp → Option Form → Option Form
   two_source_row op rest =
-      cond (eqb top (two_source_top op) && (eqb (bits_at w 21 1) 0 && eqb (bits_at w 10 6) (opcode op))) (Is (two_source_at op w)) rest
+      cond (eqb top (two_source_top op) && (eqb (bits_at w 21 1) 0 && eqb (bits_at w 10 6) (opcode op))) (Some (two_source_at op w)) rest
 
-  abbrev ldg_row : Decoded → Decoded
-  ldg_row rest = cond (eqb top (tag_store_top Stzg) && (eqb (bits_at w 21 1) 1 && eqb (bits_at w 10 2) 0)) (Is (ldg_at w)) rest
+  abbrev ldg_row : Option Form → Option Form
+  ldg_row rest = cond (eqb top (tag_store_top Stzg) && (eqb (bits_at w 21 1) 1 && eqb (bits_at w 10 2) 0)) (Some (ldg_at w)) rest
 
-  abbrev tag_store_row : TagStoreOp → Mode → Decoded → Decoded
+  abbrev tag_store_row : TagStoreOp → Mode → Option Form → Option Form
   tag_store_row op mode rest =
-      cond (eqb top (tag_store_top op) && (eqb (bits_at w 21 1) 1 && eqb (bits_at w 10 2) (mode_bits mode))) (Is (tag_store_at op mode w)) rest
+      cond (eqb top (tag_store_top op) && (eqb (bits_at w 21 1) 1 && eqb (bits_at w 10 2) (mode_bits mode))) (Some (tag_store_at op mode w)) rest
 
-  abbrev stgp_row : Mode → Decoded → Decoded
-  stgp_row mode rest = cond (eqb top (stgp_top mode)) (Is (stgp_at mode w)) rest
+  abbrev stgp_row : Mode → Option Form → Option Form
+  stgp_row mode rest = cond (eqb top (stgp_top mode)) (Some (stgp_at mode w)) rest
 
-  abbrev store_rows : TagStoreOp → Decoded → Decoded
+  abbrev store_rows : TagStoreOp → Option Form → Option Form
   store_rows op rest = tag_store_row op Post (tag_store_row op Pre (tag_store_row op Offset rest))
 
-  abbrev rows : Decoded
+  abbrev rows : Option Form
   rows =
       add_sub_row Addg (add_sub_row Subg
       (two_source_row Subp (two_source_row Subps (two_source_row Irg (two_source_row Gmi
       (ldg_row
       (store_rows Stg (store_rows Stzg (store_rows St2g (store_rows Stz2g
-      (stgp_row Post (stgp_row Pre (stgp_row Offset Undefined)))))))))))))
+      (stgp_row Post (stgp_row Pre (stgp_row Offset None)))))))))))))
 
 by_rows : (w : ℕ) → w < 2 ^ 32 → decode_of w ≡ rows (bits_at w 22 10) w
 unfolding decode_of forms_at form_of
@@ -184,23 +184,23 @@ by_rows w h =
 -- the rows that bits 31:22 leave, one set for each value
 
 guard_two_source : (t : Bool) (w : ℕ)
-    → cond (t && eqb (bits_at w 10 6) 0) (Is (two_source_at Subp w))
-    (cond (t && eqb (bits_at w 10 6) 4) (Is (two_source_at Irg w)) (cond (t && eqb (bits_at w 10 6) 5) (Is (two_source_at Gmi w)) Undefined))
-    ≡ cond t (two_source_branch (bits_at w 10 6) w) Undefined
+    → cond (t && eqb (bits_at w 10 6) 0) (Some (two_source_at Subp w))
+    (cond (t && eqb (bits_at w 10 6) 4) (Some (two_source_at Irg w)) (cond (t && eqb (bits_at w 10 6) 5) (Some (two_source_at Gmi w)) None))
+    ≡ cond t (two_source_branch (bits_at w 10 6) w) None
 guard_two_source true w = refl
 guard_two_source false w = refl
 
 guard_subps : (t : Bool) (w : ℕ)
-    → cond (t && eqb (bits_at w 10 6) 0) (Is (two_source_at Subps w)) Undefined ≡ cond t (subps_branch (bits_at w 10 6) w) Undefined
+    → cond (t && eqb (bits_at w 10 6) 0) (Some (two_source_at Subps w)) None ≡ cond t (subps_branch (bits_at w 10 6) w) None
 guard_subps true w = refl
 guard_subps false w = refl
 
 -- the rows of one operation's stores as the branch by their mode: two bits that are not zero are those of a mode
 module _ (op : TagStoreOp) (w : ℕ) where
-  abbrev guarded : Bool → ℕ → Decoded
+  abbrev guarded : Bool → ℕ → Option Form
   guarded t m =
-      cond (t && eqb m 1) (Is (tag_store_at op Post w))
-      (cond (t && eqb m 3) (Is (tag_store_at op Pre w)) (cond (t && eqb m 2) (Is (tag_store_at op Offset w)) Undefined))
+      cond (t && eqb m 1) (Some (tag_store_at op Post w))
+      (cond (t && eqb m 3) (Some (tag_store_at op Pre w)) (cond (t && eqb m 2) (Some (tag_store_at op Offset w)) None))
 
   by_mode : (m : ℕ) → m < 4 → cond (eqb m 0) (ldg_branch op w) (guarded true m) ≡ mode_branch m op w
   by_mode zero l = refl
@@ -210,12 +210,12 @@ module _ (op : TagStoreOp) (w : ℕ) where
   by_mode (suc (suc (suc (suc m)))) l = absurd (omega (arith, l))
 
   guard_stores : (t : Bool) (m : ℕ) → m < 4
-      → cond (t && eqb m 0) (ldg_branch op w) (guarded t m) ≡ cond t (mode_branch m op w) Undefined
+      → cond (t && eqb m 0) (ldg_branch op w) (guarded t m) ≡ cond t (mode_branch m op w) None
   guard_stores true m l = by_mode m l
   guard_stores false m l = refl
 
   -- an operation with no LDG: mode 0 finds nothing
-  guard_no_ldg : (t : Bool) (m : ℕ) → m < 4 → ldg_branch op w ≡ Undefined → guarded t m ≡ cond t (mode_branch m op w) Undefined
+  guard_no_ldg : (t : Bool) (m : ℕ) → m < 4 → ldg_branch op w ≡ None → guarded t m ≡ cond t (mode_branch m op w) None
   guard_no_ldg true zero l e = sym e
   guard_no_ldg true (suc m) l e = simp (eqb-suc-zero m) (simp (eqb-suc-zero m) at (by_mode (suc m) l))
   guard_no_ldg false m l e = refl
@@ -236,7 +236,7 @@ at_memory_tags Stzg w = guard_stores Stzg w (eqb (bits_at w 21 1) 1) (bits_at w 
 at_memory_tags St2g w = guard_no_ldg St2g w (eqb (bits_at w 21 1) 1) (bits_at w 10 2) (omega arith) refl
 at_memory_tags Stz2g w = guard_no_ldg Stz2g w (eqb (bits_at w 21 1) 1) (bits_at w 10 2) (omega arith) refl
 
-at_stgp : (mode : Mode) (w : ℕ) → rows (stgp_top mode) w ≡ Is (stgp_at mode w)
+at_stgp : (mode : Mode) (w : ℕ) → rows (stgp_top mode) w ≡ Some (stgp_at mode w)
 at_stgp Post w = refl
 at_stgp Pre w = refl
 at_stgp Offset w = refl
@@ -258,7 +258,7 @@ module _ (w : ℕ) (h : w < 2 ^ 32) where
       → decode_of w ≡ if_bit21 w 1 (mode_branch (bits_at w 10 2) op w)
   decode_memory_tags op e = by_top (tag_store_top op) e ∙ at_memory_tags op w
 
-  pub decode_stgp : (mode : Mode) → bits_at w 22 10 ≡ stgp_top mode → decode_of w ≡ Is (stgp_at mode w)
+  pub decode_stgp : (mode : Mode) → bits_at w 22 10 ≡ stgp_top mode → decode_of w ≡ Some (stgp_at mode w)
   decode_stgp mode e = by_top (stgp_top mode) e ∙ at_stgp mode w
 
 -- no form has other bits 31:22
@@ -268,7 +268,7 @@ module _ (w : ℕ) (h : w < 2 ^ 32) where
 
   pub decode_none : Not (add_sub_top Addg) → Not (add_sub_top Subg) → Not (two_source_top Subp) → Not (two_source_top Subps)
       → Not (tag_store_top Stg) → Not (tag_store_top Stzg) → Not (tag_store_top St2g) → Not (tag_store_top Stz2g)
-      → Not (stgp_top Post) → Not (stgp_top Pre) → Not (stgp_top Offset) → decode_of w ≡ Undefined
+      → Not (stgp_top Post) → Not (stgp_top Pre) → Not (stgp_top Offset) → decode_of w ≡ None
   decode_none addg subg subp subps stg stzg st2g stz2g post pre off =
       by_rows w h
       ∙ simp (

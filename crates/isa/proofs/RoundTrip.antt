@@ -19,9 +19,7 @@ use Rattle.isa.specs.declared.TagStoreOp.{TagStoreOp}
 use Rattle.isa.specs.declared.TagStoreOp.TheVariants.{Stg, Stzg, St2g, Stz2g}
 use Rattle.isa.specs.declared.Form.{Form}
 use Rattle.isa.specs.declared.Form.TheVariants.{AddSub, TwoSource, Ldg, TagStore, Stgp}
-use Rattle.isa.specs.declared.Decoded.{Decoded}
-use Rattle.isa.specs.declared.Decoded.TheVariants.{Is}
-use Rattle.isa.specs.declared.Encoded.TheVariants.{Word, Field}
+use Rattle.std.proofs.Common.{Option, Some, None}
 use Rattle.isa.specs.Words.{mode_bits, granule_count, word_of}
 use Rattle.isa.specs.Decoding.{add_sub_at, two_source_at, ldg_at, tag_store_at, stgp_at, forms_at, form_of, decode_of}
 use Rattle.isa.specs.Encoding.{register, amount_in, fields_fit, encode_of}
@@ -61,19 +59,19 @@ narrow (Stgp mode t t2 n amount) h = omega (arith, stgp_parts mode, three_fields
 -- and decodes to the form
 
 two_source_found : (op : TwoSourceOp) (w : ℕ) → w < 2 ^ 32 → bits_at w 22 10 ≡ two_source_top op → bits_at w 21 1 ≡ 0 → bits_at w 10 6 ≡ opcode op
-    → decode_of w ≡ Is (two_source_at op w)
+    → decode_of w ≡ Some (two_source_at op w)
 two_source_found Subp w h t z o = decode_two_source w h t ∙ simp (z, o)
 two_source_found Subps w h t z o = decode_subps w h t ∙ simp (z, o)
 two_source_found Irg w h t z o = decode_two_source w h t ∙ simp (z, o)
 two_source_found Gmi w h t z o = decode_two_source w h t ∙ simp (z, o)
 
 tag_store_found : (op : TagStoreOp) (mode : Mode) (w : ℕ) → w < 2 ^ 32 → bits_at w 22 10 ≡ tag_store_top op → bits_at w 21 1 ≡ 1 → bits_at w 10 2 ≡ mode_bits mode
-    → decode_of w ≡ Is (tag_store_at op mode w)
+    → decode_of w ≡ Some (tag_store_at op mode w)
 tag_store_found op Post w h t z m = decode_memory_tags w h op t ∙ simp (z, m)
 tag_store_found op Pre w h t z m = decode_memory_tags w h op t ∙ simp (z, m)
 tag_store_found op Offset w h t z m = decode_memory_tags w h op t ∙ simp (z, m)
 
-decodes : (f : Form) → fields_fit f ≡ true → decode_of (word_of f) ≡ Is f
+decodes : (f : Form) → fields_fit f ≡ true → decode_of (word_of f) ≡ Some f
 decodes (AddSub op d n amount offset) h =
     let b = three_fields d n offset 15 (amount_in 0 1008 amount) h in
     let w = word_of (AddSub op d n amount offset) in
@@ -114,15 +112,15 @@ data AllFit : List Form → Type 0 where
 abbrev Encodes : Form → ℕ → Type 0
 Encodes f w = (fields_fit f ≡ true) × (word_of f ≡ w)
 
-found_at : (w : ℕ) (f g : Form) (t : Bool) (rest : Decoded) → eqb (word_of g) w ≡ t → fields_fit g ≡ true → (rest ≡ Is f → Encodes f w)
-    → cond t (Is g) rest ≡ Is f → Encodes f w
+found_at : (w : ℕ) (f g : Form) (t : Bool) (rest : Option Form) → eqb (word_of g) w ≡ t → fields_fit g ≡ true → (rest ≡ Some f → Encodes f w)
+    → cond t (Some g) rest ≡ Some f → Encodes f w
 found_at w f g true rest p fit next e =
     let same : g ≡ f = cc in (ap fields_fit (sym same) ∙ fit, ap word_of (sym same) ∙ eqb-true (word_of g) w p)
 found_at w f g false rest p fit next e = next e
 
-found : (w : ℕ) (f : Form) {fs : List Form} → AllFit fs → form_of w fs ≡ Is f → Encodes f w
+found : (w : ℕ) (f : Form) {fs : List Form} → AllFit fs → form_of w fs ≡ Some f → Encodes f w
 unfolding form_of
-found w f none e = let z : ◌≡◌ {A = ℕ} 0 1 = cc in absurd (omega arith)
+found w f none e = absurd (cc)
 found w f (more {f = g} {fs = gs} fit rest) e = found_at w f g (eqb (word_of g) w) (form_of w gs) refl fit (found w f rest) e
 
 -- the fields of a word are in range
@@ -159,22 +157,22 @@ module _ (w : ℕ) where
       (stores_fit Stg (stores_fit Stzg (stores_fit St2g (stores_fit Stz2g
       (more (stgp_fit Post) (more (stgp_fit Pre) (more (stgp_fit Offset) none)))))))))))))
 
-encodes : (f : Form) → fields_fit f ≡ true → encode_of f ≡ Word (word_of f)
+encodes : (f : Form) → fields_fit f ≡ true → encode_of f ≡ Some (word_of f)
 unfolding encode_of
 encodes f h = simp h
 
-refuses : (f : Form) → fields_fit f ≡ false → encode_of f ≡ Field
+refuses : (f : Form) → fields_fit f ≡ false → encode_of f ≡ None
 unfolding encode_of
 refuses f h = simp h
 
-reads_back : (w : ℕ) (f : Form) → decode_of w ≡ Is f → encode_of f ≡ Word w
+reads_back : (w : ℕ) (f : Form) → decode_of w ≡ Some f → encode_of f ≡ Some w
 unfolding decode_of
-reads_back w f e = let r = found w f (all_fit w) e in encodes f r.0 ∙ ap Word r.1
+reads_back w f e = let r = found w f (all_fit w) e in encodes f r.0 ∙ ap Some r.1
 
 pub round_trip : RoundTrip
 round_trip = record { encodes = encodes; narrow = narrow; decodes = decodes; refuses = refuses; reads_back = reads_back }
 
 -- the fields of a decoded form are in range
-pub decoded_fits : (w : ℕ) (f : Form) → decode_of w ≡ Is f → fields_fit f ≡ true
+pub decoded_fits : (w : ℕ) (f : Form) → decode_of w ≡ Some f → fields_fit f ≡ true
 unfolding decode_of
 decoded_fits w f e = (found w f (all_fit w) e).0

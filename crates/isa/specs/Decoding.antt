@@ -1,5 +1,5 @@
 -- From a word to its form (document 01, "Words"; codes: "Codes and their order").
-use Rattle.std.specs.Prelude.{ℕ, ◌-◌, ◌*◌, ◌^◌, cond, List, [], ◌∷◌, ltb, eqb}
+use Rattle.std.specs.Prelude.{ℕ, ◌-◌, ◌*◌, ◌^◌, cond, List, [], ◌∷◌, ltb, eqb, Option, Some, None}
 use Rattle.bits.specs.Fields.{bits_at}
 use Rattle.isa.specs.declared.Mode.{Mode}
 use Rattle.isa.specs.declared.Mode.TheVariants.{Post, Pre, Offset}
@@ -11,8 +11,6 @@ use Rattle.isa.specs.declared.TagStoreOp.{TagStoreOp}
 use Rattle.isa.specs.declared.TagStoreOp.TheVariants.{Stg, Stzg, St2g, Stz2g}
 use Rattle.isa.specs.declared.Form.{Form}
 use Rattle.isa.specs.declared.Form.TheVariants.{AddSub, TwoSource, Ldg, TagStore, Stgp}
-use Rattle.isa.specs.declared.Decoded.{Decoded}
-use Rattle.isa.specs.declared.Decoded.TheVariants.{Is, Undefined}
 use Rattle.isa.specs.Words.{word_of}
 
 -- the bytes of a signed count of granules in a field of 2 * half values, modulo 2 ^ 64
@@ -48,15 +46,15 @@ forms_at w =
     ∷ stgp_at Post w ∷ stgp_at Pre w ∷ stgp_at Offset w ∷ []
 
 -- the first of some forms whose word is w
-unfoldable pub form_of : ℕ → List Form → Decoded
-form_of w [] = Undefined
-form_of w (f ∷ fs) = cond (eqb (word_of f) w) (Is f) (form_of w fs)
+unfoldable pub form_of : ℕ → List Form → Option Form
+form_of w [] = None
+form_of w (f ∷ fs) = cond (eqb (word_of f) w) (Some f) (form_of w fs)
 
--- the form whose word is w, or UNDEFINED
-unfoldable pub decode_of : ℕ → Decoded
+-- the form whose word is w, if there is one
+unfoldable pub decode_of : ℕ → Option Form
 decode_of w = form_of w (forms_at w)
 
--- its code: 0 DONE, 2 UNDEFINED
-abbrev pub decoded_code : Decoded → ℕ
-decoded_code (Is f) = 0
-decoded_code Undefined = 2
+-- the code of that answer: 0 DONE, 2 UNDEFINED for none
+abbrev pub decoded_code : Option Form → ℕ
+decoded_code (Some f) = 0
+decoded_code None = 2

@@ -1,9 +1,7 @@
 -- From a form to its word, and when a field is refused (document 01, "Words"; codes: "Codes and their order").
-use Rattle.std.specs.Prelude.{ℕ, ◌-◌, ◌%◌, ◌^◌, Bool, cond, ◌&&◌, ◌||◌, leb, ltb, eqb}
+use Rattle.std.specs.Prelude.{ℕ, ◌-◌, ◌%◌, ◌^◌, Bool, cond, ◌&&◌, ◌||◌, leb, ltb, eqb, Option, Some, None}
 use Rattle.isa.specs.declared.Form.{Form}
 use Rattle.isa.specs.declared.Form.TheVariants.{AddSub, TwoSource, Ldg, TagStore, Stgp}
-use Rattle.isa.specs.declared.Encoded.{Encoded}
-use Rattle.isa.specs.declared.Encoded.TheVariants.{Word, Field}
 use Rattle.isa.specs.Words.{word_of}
 
 -- a register is 0 to 31
@@ -22,16 +20,16 @@ fields_fit (Ldg t n amount) = register t && register n && amount_in 4096 4080 am
 fields_fit (TagStore op mode t n amount) = register t && register n && amount_in 4096 4080 amount
 fields_fit (Stgp mode t t2 n amount) = register t && register t2 && register n && amount_in 1024 1008 amount
 
--- the word of a form, or FIELD
-unfoldable pub encode_of : Form → Encoded
-encode_of f = cond (fields_fit f) (Word (word_of f)) Field
+-- the word of a form whose fields are in range
+unfoldable pub encode_of : Form → Option ℕ
+encode_of f = cond (fields_fit f) (Some (word_of f)) None
 
--- its code: 0 DONE, 8 FIELD
-abbrev pub encoded_code : Encoded → ℕ
-encoded_code (Word w) = 0
-encoded_code Field = 8
+-- the code of that answer: 0 DONE, 8 FIELD for none
+abbrev pub encoded_code : Option ℕ → ℕ
+encoded_code (Some w) = 0
+encoded_code None = 8
 
 -- with FIELD the word returned is 0
-abbrev pub encoded_word : Encoded → ℕ
-encoded_word (Word w) = w
-encoded_word Field = 0
+abbrev pub encoded_word : Option ℕ → ℕ
+encoded_word (Some w) = w
+encoded_word None = 0

@@ -1,48 +1,16 @@
 // The word of a form, and whether its fields are in range.
-ghost use Rattle.std.specs.Prelude.{◌≡◌, ◌&&◌, true, ◌+◌, ◌*◌, ◌^◌, ◌<◌, leb};
+ghost use Rattle.std.specs.Prelude.{◌≡◌, true, ◌+◌, ◌*◌, ◌^◌, ◌<◌};
 ghost use Rattle.bits.specs.Fields.{bits_at};
-ghost use Rattle.isa.specs.Encoding.{register, amount_in, fields_fit};
+ghost use Rattle.isa.specs.Encoding.{amount_in, fields_fit};
 ghost use Rattle.isa.specs.Words.{add_sub_bits, two_source_bits, tag_store_bits, mode_bits, stgp_bits, granule_count, word_of};
 
 use super::{AddSubOp, Form, Mode, TagStoreOp, TwoSourceOp};
-
-fn both(a: bool, b: bool) -> bool
-    ensures { result ≡ (a && b) }
-{
-    if a { b } else { false }
-}
-
-fn at_most(x: u64, limit: u64) -> bool
-    ensures { result ≡ leb x limit }
-{
-    x <= limit
-}
 
 // Whether an amount is a whole number of granules, from `low` below zero to `high`.
 fn amount_in(low: u64, high: u64, amount: u64) -> bool
     ensures { result ≡ amount_in low high amount }
 {
-    if bits::field(amount, 0, 4) == 0 {
-        if amount <= high {
-            true
-        } else {
-            0xFFFF_FFFF_FFFF_FFFF - low < amount
-        }
-    } else {
-        false
-    }
-}
-
-fn two_registers(a: u64, b: u64) -> bool
-    ensures { result ≡ (register a && register b) }
-{
-    both(at_most(a, 31), at_most(b, 31))
-}
-
-fn three_fields(a: u64, b: u64, c: u64, limit: u64) -> bool
-    ensures { result ≡ (register a && register b && leb c limit) }
-{
-    both(two_registers(a, b), at_most(c, limit))
+    amount.is_multiple_of(16) && (amount <= high || amount.wrapping_neg() <= low)
 }
 
 // Whether each field of a form is in its range.
@@ -51,28 +19,23 @@ pub(crate) fn fits(f: Form) -> bool
 {
     match f {
         Form::AddSub {
-            op: _,
             d,
             n,
             amount,
             offset,
-        } => both(three_fields(d, n, offset, 15), amount_in(0, 1008, amount)),
-        Form::TwoSource { op: _, d, n, m } => three_fields(d, n, m, 31),
-        Form::Ldg { t, n, amount } => both(two_registers(t, n), amount_in(4096, 4080, amount)),
-        Form::TagStore {
-            op: _,
-            mode: _,
-            t,
-            n,
-            amount,
-        } => both(two_registers(t, n), amount_in(4096, 4080, amount)),
+            ..
+        } => d <= 31 && n <= 31 && offset <= 15 && amount_in(0, 1008, amount),
+        Form::TwoSource { d, n, m, .. } => d <= 31 && n <= 31 && m <= 31,
+        Form::Ldg { t, n, amount } | Form::TagStore { t, n, amount, .. } => {
+            t <= 31 && n <= 31 && amount_in(4096, 4080, amount)
+        }
         Form::Stgp {
-            mode: _,
             t,
             t2,
             n,
             amount,
-        } => both(three_fields(t, t2, n, 31), amount_in(1024, 1008, amount)),
+            ..
+        } => t <= 31 && t2 <= 31 && n <= 31 && amount_in(1024, 1008, amount),
     }
 }
 

@@ -9,7 +9,7 @@ pub mod decoder;
 mod encoder;
 
 // Where a store takes its address from the base register, and when the register moves.
-#[derive(Clone, Copy)]
+#[derive(Clone, Copy, Debug, PartialEq, Eq)]
 pub enum Mode {
     Post,
     Pre,
@@ -17,14 +17,14 @@ pub enum Mode {
 }
 
 // A sum or difference of a pointer and an amount, with a tag offset.
-#[derive(Clone, Copy)]
+#[derive(Clone, Copy, Debug, PartialEq, Eq)]
 pub enum AddSubOp {
     Addg,
     Subg,
 }
 
 // An operation on two source registers.
-#[derive(Clone, Copy)]
+#[derive(Clone, Copy, Debug, PartialEq, Eq)]
 pub enum TwoSourceOp {
     Subp,
     Subps,
@@ -33,7 +33,7 @@ pub enum TwoSourceOp {
 }
 
 // A tag store of one or two granules, zeroing the data or not.
-#[derive(Clone, Copy)]
+#[derive(Clone, Copy, Debug, PartialEq, Eq)]
 pub enum TagStoreOp {
     Stg,
     Stzg,
@@ -42,7 +42,7 @@ pub enum TagStoreOp {
 }
 
 // An instruction with its fields. d, n, m, t and t2 are register numbers; amounts are bytes, modulo 2^64.
-#[derive(Clone, Copy)]
+#[derive(Clone, Copy, Debug, PartialEq, Eq)]
 pub enum Form {
     AddSub {
         op: AddSubOp,
@@ -78,59 +78,12 @@ pub enum Form {
     },
 }
 
-#[derive(Clone, Copy)]
-pub enum Decoded {
-    Is(Form),
-    Undefined,
-}
-
-#[derive(Clone, Copy)]
-pub enum Encoded {
-    Word(u32),
-    Field,
-}
-
-impl Decoded {
-    // The code: 0 DONE, 2 UNDEFINED.
-    pub fn number(self) -> u32
-        ensures { result ≡ decoded_code self }
-    {
-        match self {
-            Decoded::Is(_) => 0,
-            Decoded::Undefined => 2,
-        }
-    }
-}
-
-impl Encoded {
-    // The code: 0 DONE, 8 FIELD.
-    pub fn number(self) -> u32
-        ensures { result ≡ encoded_code self }
-    {
-        match self {
-            Encoded::Word(_) => 0,
-            Encoded::Field => 8,
-        }
-    }
-
-    // The word, or 0 with FIELD.
-    pub fn word(self) -> u32
-        ensures { result ≡ encoded_word self }
-    {
-        match self {
-            Encoded::Word(w) => w,
-            Encoded::Field => 0,
-        }
-    }
-}
-
 // The form of a word, or none.
-pub fn decode(w: u32) -> Decoded
+pub fn decode(w: u32) -> Option<Form>
     ensures { result ≡ decode_of w }
 {
-    let word = w as u64;
-    let top = bits::field(word, 22, 10);
-    match top {
+    let word = u64::from(w);
+    match bits::field(word, 22, 10) {
         0x246 => decoder::add_sub(AddSubOp::Addg, word),
         0x346 => decoder::add_sub(AddSubOp::Subg, word),
         0x26B => decoder::two_source(word),
@@ -139,10 +92,10 @@ pub fn decode(w: u32) -> Decoded
         0x365 => decoder::memory_tags(TagStoreOp::Stzg, word),
         0x366 => decoder::memory_tags(TagStoreOp::St2g, word),
         0x367 => decoder::memory_tags(TagStoreOp::Stz2g, word),
-        0x1A2 => decoder::stgp(Mode::Post, word),
-        0x1A6 => decoder::stgp(Mode::Pre, word),
-        0x1A4 => decoder::stgp(Mode::Offset, word),
-        _ => Decoded::Undefined,
+        0x1A2 => Some(decoder::stgp(Mode::Post, word)),
+        0x1A6 => Some(decoder::stgp(Mode::Pre, word)),
+        0x1A4 => Some(decoder::stgp(Mode::Offset, word)),
+        _ => None,
     }
 }
 
@@ -150,16 +103,33 @@ pub fn decode(w: u32) -> Decoded
 pub fn word_code(w: u32) -> u32
     ensures { result ≡ decoded_code (decode_of w) }
 {
-    decode(w).number()
+    match decode(w) {
+        Some(_) => 0,
+        None => 2,
+    }
 }
 
-// The word of a form, or FIELD where a field is out of range.
-pub fn encode(f: Form) -> Encoded
+// The word of a form, or none where a field is out of range.
+#[tactic(auto, unfolding(crate::specs::Encoding::encode_of))]
+pub fn encode(f: Form) -> Option<u32>
     ensures { result ≡ encode_of f }
 {
-    if encoder::fits(f) {
-        Encoded::Word(encoder::word(f))
-    } else {
-        Encoded::Field
+    encoder::fits(f).then(|| encoder::word(f))
+}
+
+// The code of a form: 0 where it has a word, 8 for a field out of range.
+pub fn form_code(f: Form) -> u32
+    ensures { result ≡ encoded_code (encode_of f) }
+{
+    match encode(f) {
+        Some(_) => 0,
+        None => 8,
     }
+}
+
+// The word of a form, or 0 where a field is out of range.
+pub fn form_word(f: Form) -> u32
+    ensures { result ≡ encoded_word (encode_of f) }
+{
+    encode(f).unwrap_or(0)
 }
