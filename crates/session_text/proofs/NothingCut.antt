@@ -8,7 +8,7 @@ use lib.ListN.{length, drop, length-drop}
 use Rattle.machine.specs.declared.Code.{Code}
 use Rattle.machine.specs.declared.Code.TheVariants.{Done, Setup, Undefined, SpAlign, Align, Outside, NoHistory, BadRecord, Field}
 use Rattle.machine.specs.Codes.{code_number}
-use Rattle.machine.proofs.Setup.{setup_state, state_status}
+use Rattle.machine.proofs.Rules.{setup_state, state_status}
 use Rattle.execution.specs.Calls.{Returned, Out, refused, done, in_order, returned, one_more}
 use Rattle.execution.specs.Simulation.{Simulation, machine_of, well_formed}
 use Rattle.execution.specs.Steps.{run_of, step_of}

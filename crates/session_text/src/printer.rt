@@ -4,6 +4,7 @@ ghost use Rattle.std.proofs.lemmas.List.Edits.{sets};
 ghost use Rattle.session_text.specs.Printing.{answer_lines, bad_text, register_lines, report_text};
 
 use machine::{Code, Registers};
+use simulator::Ran;
 
 // Puts the number of a wrong line at the start of out.
 #[tactic(auto, unfolding(crate::specs::Printing::bad_text))]
@@ -22,7 +23,7 @@ fn put_answer(out: &mut [u8], count: usize, code: Code) -> usize
     ensures out_after { out.new ≡ sets out.old 0 (answer_lines count code) }
 {
     let at = text::put_line(out, 0, b"done=", 4, count as u64);
-    text::put_line(out, at, b"code=", 1, u64::from(code.number()))
+    text::put_line(out, at, b"code=", 1, u64::from(u32::from(code)))
 }
 
 // Puts X0, X1, X2 and SP at at.
@@ -38,18 +39,12 @@ fn put_registers(out: &mut [u8], at: usize, x: &[u64; 32]) -> usize
 }
 
 // Puts what is printed of a run at the start of out.
-pub(crate) fn put_report(
-    out: &mut [u8],
-    count: usize,
-    code: Code,
-    registers: &Registers,
-    tags: &[u8],
-) -> usize
+pub(crate) fn put_report(out: &mut [u8], ran: Ran, registers: &Registers, tags: &[u8]) -> usize
     requires { 110 + length tags.now ≤ length out.old }
     ensures value { result ≡ 110 + length tags.now }
-    ensures out_after { out.new ≡ sets out.old 0 (report_text count code registers.now tags.now) }
+    ensures out_after { out.new ≡ sets out.old 0 (report_text ran.count ran.code registers.now tags.now) }
 {
-    let x0 = put_answer(out, count, code);
+    let x0 = put_answer(out, ran.count, ran.code);
     let nzcv = put_registers(out, x0, &registers.x);
     let digits = text::put_line(out, nzcv, b"nzcv=", 1, u64::from(registers.status.nzcv));
     text::put_digits_line(out, digits, b"tags=", tags)

@@ -1,12 +1,13 @@
 // Runs the words of a session on its machine.
-ghost use Rattle.std.specs.Prelude.{◌≡◌, ◌≤◌};
+ghost use Rattle.std.specs.Prelude.{◌≡◌, ◌≤◌, length, []};
+ghost use Rattle.execution.specs.Simulation.{simulation};
 ghost use Rattle.execution.specs.Steps.{run_of};
 ghost use Rattle.session_text.specs.Inside.Buffers.{Fits, Printed};
-ghost use Rattle.session_text.specs.Run.{machine_for, simulation_of, simulation_on, start_of};
+ghost use Rattle.session_text.specs.Run.{machine_for, simulation_of, start_of};
 ghost use Rattle.session_text.specs.Session.{ran_text};
 
 use super::printer;
-use machine::Machine;
+use machine::{Machine, Setup};
 
 // What the nine lines say, by name.
 #[derive(Clone, Copy)]
@@ -59,27 +60,26 @@ impl Start {
     }
 }
 
-// Runs the words on the first granules of a memory, puts what is printed of that at the start of out, and answers its length.
+// Runs the words on a memory, puts what is printed of that at the start of out, and answers its length.
 fn run_on(
     start: Start,
     words: &[u32],
-    bytes: &mut [u8; 16384],
-    tags: &mut [u8; 1024],
+    bytes: &mut [u8],
+    tags: &mut [u8],
     out: &mut [u8; 1134],
 ) -> usize
-    requires { start.granules ≤ 1024 }
-    ensures { Printed result out.old out.new (ran_text (run_of (simulation_on start bytes.old tags.old) words.now)) }
+    requires { length tags.old ≤ 1024 }
+    ensures { Printed result out.old out.new (ran_text (run_of (simulation (machine_for start) bytes.old tags.old []) words.now)) }
 {
-    let g = start.granules;
-    let ran = simulator::run(
-        start.machine(),
-        words,
-        &mut bytes[..16 * g],
-        &mut tags[..g],
-        &mut [],
-    );
-    let registers = ran.machine.registers;
-    printer::put_report(out, ran.count, ran.code, &registers, &tags[..g])
+    let machine = start.machine();
+    let mut setup = Setup {
+        machine,
+        bytes,
+        tags,
+    };
+    let ran = simulator::run(&mut setup, words, &mut []);
+    let registers = setup.machine.registers;
+    printer::put_report(out, ran, &registers, tags)
 }
 
 // Runs the words, puts what is printed of that at the start of out, and answers its length.
@@ -88,7 +88,8 @@ pub(crate) fn run(start: Start, words: &[u32], out: &mut [u8; 1134]) -> usize
     requires { start.granules ≤ 1024 }
     ensures { Printed result out.old out.new (ran_text (run_of (simulation_of start) words.now)) }
 {
+    let g = start.granules;
     let mut tags = [0; 1024];
     let mut bytes = [0; 16384];
-    run_on(start, words, &mut bytes, &mut tags, out)
+    run_on(start, words, &mut bytes[..16 * g], &mut tags[..g], out)
 }

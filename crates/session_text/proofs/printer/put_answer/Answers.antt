@@ -9,6 +9,6 @@ unfolding answer_lines
 returns c =
     record {
       value = omega arith;
-      out_after = (rw (c.from.ensures ∙ c.number.ensures) at c.put_line.ensures.out_after)
+      out_after = (rw (c.from-2.ensures ∙ c.from.ensures) at c.put_line.ensures.out_after)
           ∙ then _ _ _ _ _ _ _ _ c.put_line-at.ensures.out_after c.put_line-at.ensures.value;
     }

@@ -12,7 +12,7 @@ unfolding report_text
 returns c =
     let a = c.args in
     let r = a.registers.now in
-    let answer = answer_lines a.count a.code in
+    let answer = answer_lines a.ran.count a.ran.code in
     let registers = register_lines r.x in
     let nzcv = line_text (ascii "nzcv=") 1 r.status.nzcv in
     let tags = digits_line (ascii "tags=") a.tags.now in
