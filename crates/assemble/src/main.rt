@@ -4,29 +4,21 @@
 
 use diagnostics::Source;
 
-// One byte more than the largest file has, so that a larger one is seen.
-const ROOM: usize = 0x10_0001;
-
-fn run(rt: &HostRuntime, room: &mut [u8], out: &mut [u8; 3732]) {
-    let n = stdio::read(rt, room, b"assemble: cannot read standard input");
-    let answer = assembly::assemble(&room[..n], out);
-    diagnostics::report(
-        rt,
-        Source::Listing,
-        answer,
-        &room[..n],
-        out,
-        b"assemble: cannot write standard output",
-    );
-}
-
-// Lends the array as a slice, here where its type says how long it is.
-fn lend(rt: &HostRuntime, room: &mut [u8; ROOM], out: &mut [u8; 3732]) {
-    run(rt, room, out);
+fn run(rt: &HostRuntime, out: &mut [u8; 3732]) {
+    diagnostics::with_input(rt, b"assemble: cannot read standard input", |input| {
+        let answer = assembly::assemble(input, out);
+        diagnostics::report(
+            rt,
+            Source::Listing,
+            answer,
+            input,
+            out,
+            b"assemble: cannot write standard output",
+        );
+    });
 }
 
 fn main(rt: HostRuntime) {
-    let mut room = [0u8; ROOM];
-    let mut out = [0u8; 3732];
-    lend(&rt, &mut room, &mut out);
+    let mut out = [0; 3732];
+    run(&rt, &mut out);
 }

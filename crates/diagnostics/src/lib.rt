@@ -1,14 +1,16 @@
-// What is written of an answer: the text on standard output, or on standard error why there is none, which is the line and what was
-// expected there (docs/MANUAL.md).
+// What the programs that convert a file share: they read it, and write the text that it is converted to on standard output, or on standard
+// error why there is none, which is the line and what was expected there (docs/MANUAL.md).
 #![tactic(auto)]
 
-ghost use Rattle.std.specs.Prelude.{◌≡◌};
 ghost use Rattle.assembly.specs.Answers.{LendableText};
 
-use assembly::{Answer, Refusal, lines};
+use assembly::{Refusal, lines};
+
+// One byte more than the largest file has, so that a larger one is seen.
+const ROOM: usize = 0x10_0001;
 
 // What a file has behind the nine lines: a session words, a .s file listing lines.
-#[derive(Drop)]
+#[derive(Clone, Copy, Debug, PartialEq, Eq)]
 pub enum Source {
     Session,
     Listing,
@@ -18,7 +20,7 @@ pub enum Source {
 fn tell_line(rt: &HostRuntime, text: &[u8], number: usize, at: usize) {
     let _ = eprint!(rt; "line {number}");
     let line = lines::line_at(text, at);
-    if line.len() == 0 {
+    if line.is_empty() {
         stdio::tell(rt, b" is missing\n");
         return;
     }
@@ -31,43 +33,25 @@ fn tell_line(rt: &HostRuntime, text: &[u8], number: usize, at: usize) {
     stdio::tell(rt, b"\n");
 }
 
-// Tells what is expected where so many numbers were read.
-fn tell_expected(rt: &HostRuntime, source: Source, expected: usize) {
-    match expected {
-        0 => stdio::tell(
-            rt,
-            b"expected: base= and 16 lower-case hexadecimal digits\n",
-        ),
-        1 => stdio::tell(
-            rt,
-            b"expected: granules= and 4 lower-case hexadecimal digits, at most 0400\n",
-        ),
-        2 => stdio::tell(rt, b"expected: access= and 0 or 1\n"),
-        3 => stdio::tell(
-            rt,
-            b"expected: exclude= and 4 lower-case hexadecimal digits\n",
-        ),
-        4 => stdio::tell(rt, b"expected: seed= and 4 lower-case hexadecimal digits\n"),
-        5 => stdio::tell(rt, b"expected: x0= and 16 lower-case hexadecimal digits\n"),
-        6 => stdio::tell(rt, b"expected: x1= and 16 lower-case hexadecimal digits\n"),
-        7 => stdio::tell(rt, b"expected: x2= and 16 lower-case hexadecimal digits\n"),
-        8 => stdio::tell(rt, b"expected: sp= and 16 lower-case hexadecimal digits\n"),
-        265 => stdio::tell(rt, b"expected: the end, after 256 words\n"),
-        _ => tell_word(rt, source),
-    }
-}
-
-// Tells what is expected behind the nine lines.
-fn tell_word(rt: &HostRuntime, source: Source) {
-    match source {
-        Source::Session => stdio::tell(
-            rt,
-            b"expected: word= and 8 lower-case hexadecimal digits, or the end\n",
-        ),
-        Source::Listing => stdio::tell(
-            rt,
-            b"BADLINE, expected: a listing line, as stg x0, [x0], #16, or the end\n",
-        ),
+// What is expected where so many numbers were read.
+fn expected_text(source: Source, expected: usize) -> &'static [u8] {
+    match (expected, source) {
+        (0, _) => b"expected: base= and 16 lower-case hexadecimal digits\n",
+        (1, _) => b"expected: granules= and 4 lower-case hexadecimal digits, at most 0400\n",
+        (2, _) => b"expected: access= and 0 or 1\n",
+        (3, _) => b"expected: exclude= and 4 lower-case hexadecimal digits\n",
+        (4, _) => b"expected: seed= and 4 lower-case hexadecimal digits\n",
+        (5, _) => b"expected: x0= and 16 lower-case hexadecimal digits\n",
+        (6, _) => b"expected: x1= and 16 lower-case hexadecimal digits\n",
+        (7, _) => b"expected: x2= and 16 lower-case hexadecimal digits\n",
+        (8, _) => b"expected: sp= and 16 lower-case hexadecimal digits\n",
+        (265, _) => b"expected: the end, after 256 words\n",
+        (_, Source::Session) => {
+            b"expected: word= and 8 lower-case hexadecimal digits, or the end\n"
+        },
+        (_, Source::Listing) => {
+            b"BADLINE, expected: a listing line, as stg x0, [x0], #16, or the end\n"
+        },
     }
 }
 
@@ -80,7 +64,7 @@ fn tell(rt: &HostRuntime, source: Source, text: &[u8], why: Refusal) {
             at,
         } => {
             tell_line(rt, text, number, at);
-            tell_expected(rt, source, expected);
+            stdio::tell(rt, expected_text(source, expected));
         },
         Refusal::Undefined { number, at } => {
             tell_line(rt, text, number, at);
@@ -93,12 +77,35 @@ fn tell(rt: &HostRuntime, source: Source, text: &[u8], why: Refusal) {
     }
 }
 
+// Reads into the room, and hands on what was read.
+fn read_into<F: FnOnce(&[u8])>(rt: &HostRuntime, room: &mut [u8], failed: &[u8], convert: F)
+    requires { F.IsAlwaysCallable convert }
+{
+    let n = stdio::read(rt, room, failed);
+    convert(&room[..n]);
+}
+
+// Lends the array as a slice, here where its type says how long it is.
+fn lend<F: FnOnce(&[u8])>(rt: &HostRuntime, room: &mut [u8; ROOM], failed: &[u8], convert: F)
+    requires { F.IsAlwaysCallable convert }
+{
+    read_into(rt, room, failed, convert);
+}
+
+// Reads standard input, and hands it to what converts it. A read that fails is told by the line failed.
+pub fn with_input<F: FnOnce(&[u8])>(rt: &HostRuntime, failed: &[u8], convert: F)
+    requires { F.IsAlwaysCallable convert }
+{
+    let mut room = [0; ROOM];
+    lend(rt, &mut room, failed, convert);
+}
+
 // Writes the text that out begins with, or tells why the input was refused. A program calls it with its answer and the buffer that the
 // answer speaks of. That bytes are written no contract can say.
 pub fn report(
     rt: &HostRuntime,
     source: Source,
-    answer: Answer,
+    answer: Result<usize, Refusal>,
     input: &[u8],
     out: &[u8],
     failed: &[u8],
@@ -106,7 +113,7 @@ pub fn report(
     requires { LendableText answer out.now }
 {
     match answer {
-        Answer::Text(n) => stdio::write(&stdio::open(rt), &out[..n], failed),
-        Answer::Refused(why) => tell(rt, source, input, why),
+        Ok(n) => stdio::write(&stdio::open(rt), &out[..n], failed),
+        Err(why) => tell(rt, source, input, why),
     }
 }

@@ -4,29 +4,21 @@
 
 use diagnostics::Source;
 
-// One byte more than the largest file has, so that a larger one is seen.
-const ROOM: usize = 0x10_0001;
-
-fn run(rt: &HostRuntime, room: &mut [u8], out: &mut [u8; 25748]) {
-    let n = stdio::read(rt, room, b"list: cannot read standard input");
-    let answer = assembly::list(&room[..n], out);
-    diagnostics::report(
-        rt,
-        Source::Session,
-        answer,
-        &room[..n],
-        out,
-        b"list: cannot write standard output",
-    );
-}
-
-// Lends the array as a slice, here where its type says how long it is.
-fn lend(rt: &HostRuntime, room: &mut [u8; ROOM], out: &mut [u8; 25748]) {
-    run(rt, room, out);
+fn run(rt: &HostRuntime, out: &mut [u8; 25748]) {
+    diagnostics::with_input(rt, b"list: cannot read standard input", |input| {
+        let answer = assembly::list(input, out);
+        diagnostics::report(
+            rt,
+            Source::Session,
+            answer,
+            input,
+            out,
+            b"list: cannot write standard output",
+        );
+    });
 }
 
 fn main(rt: HostRuntime) {
-    let mut room = [0u8; ROOM];
-    let mut out = [0u8; 25748];
-    lend(&rt, &mut room, &mut out);
+    let mut out = [0; 25748];
+    run(&rt, &mut out);
 }
