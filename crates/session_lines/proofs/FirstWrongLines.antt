@@ -8,8 +8,9 @@ use native.Mathlib.Omega.{arith}
 use borrow.Author.Tests.{leb-false}
 use lib.Dec.{leb}
 use lib.ListN.{length, drop, length-append}
+use Rattle.std.proofs.Common.{Option, None, Some}
 use Rattle.text.specs.declared.Line.{Line}
-use Rattle.text.specs.declared.Line.TheVariants.{Is, Wrong}
+use Rattle.text.specs.Lines.{is_line}
 use Rattle.text.proofs.ExactLines.{line_exact}
 use Rattle.text.proofs.Framing.{line_says}
 use Rattle.text.proofs.Writing.{length_line}
@@ -26,7 +27,7 @@ record Stopped (allowed i : ℕ) (s : List ℕ) (at : ℕ) (v : List ℕ) (next 
   text : drop at s ≡ lines_from i v ++ drop next s
   place : next ≡ at + length (lines_from i v)
   extra : length v ≡ allowed → next < length s
-  wrong : length v < allowed → line_of (format_of (i + length v)) s next ≡ Wrong
+  wrong : length v < allowed → line_of (format_of (i + length v)) s next ≡ None
   needed : length v < allowed → leb 9 (i + length v) && ended s next ≡ false
 
 abbrev IfBad : ℕ → ℕ → List ℕ → ℕ → Parsed → Type 0
@@ -35,10 +36,10 @@ IfBad allowed i s at p =
 
 module _ (allowed i : ℕ) (s : List ℕ) (at : ℕ) where
   not_bad : (v : List ℕ) → IfBad allowed i s at (good v)
-  not_bad v number e = let z : ◌≡◌ {A = ℕ} 0 1 = cc in absurd (omega arith)
+  not_bad v number e = cc
 
   -- it goes wrong at once
-  stop_here : (allowed ≡ 0 → at < length s) → (0 < allowed → line_of (format_of i) s at ≡ Wrong) → (0 < allowed → leb 9 i && ended s at ≡ false)
+  stop_here : (allowed ≡ 0 → at < length s) → (0 < allowed → line_of (format_of i) s at ≡ None) → (0 < allowed → leb 9 i && ended s at ≡ false)
       → IfBad allowed i s at (bad (i + 1))
   unfolding lines_from
   stop_here extra wrong needed number e =
@@ -55,7 +56,7 @@ module _ (allowed i : ℕ) (s : List ℕ) (at : ℕ) where
       } in
       ([], at, stopped, omega arith)
 
-  module _ (x next : ℕ) (line : line_of (format_of i) s at ≡ Is x next) where
+  module _ (x next : ℕ) (line : line_of (format_of i) s at ≡ is_line x next) where
     one_more : (v : List ℕ) (stop : ℕ) → Stopped allowed (i + 1) s next v stop → Stopped (suc allowed) i s at (x ∷ v) stop
     unfolding lines_from
     one_more v stop rest =
@@ -78,16 +79,16 @@ module _ (allowed i : ℕ) (s : List ℕ) (at : ℕ) where
         }
 
     stop_behind : (p : Parsed) → IfBad allowed (i + 1) s next p → IfBad (suc allowed) i s at (before x p)
-    stop_behind (good w) rest number e = let z : ◌≡◌ {A = ℕ} 0 1 = cc in absurd (omega arith)
+    stop_behind (good w) rest number e = cc
     stop_behind (bad m) rest number e =
         let r = rest number e in
         (x ∷ r.0, r.1, one_more r.0 r.1 r.2, omega (arith, r.3))
 
 module _ (allowed i : ℕ) (s : List ℕ) (at : ℕ) (rest : (next : ℕ) → IfBad allowed (i + 1) s next (parse_lines allowed (i + 1) s next)) where
-  stop_line : leb 9 i && ended s at ≡ false → (l : Line) → line_of (format_of i) s at ≡ l → IfBad (suc allowed) i s at (parse_lines (suc allowed) i s at)
-  stop_line on (Is x next) q =
-      rw (one_read allowed i s at on x next q) (stop_behind allowed i s at x next q (parse_lines allowed (i + 1) s next) (rest next))
-  stop_line on Wrong q =
+  stop_line : leb 9 i && ended s at ≡ false → (l : Option Line) → line_of (format_of i) s at ≡ l → IfBad (suc allowed) i s at (parse_lines (suc allowed) i s at)
+  stop_line on (Some line) q =
+      rw (one_read allowed i s at on line.value line.next q) (stop_behind allowed i s at line.value line.next q (parse_lines allowed (i + 1) s line.next) (rest line.next))
+  stop_line on None q =
       rw (one_wrong allowed i s at on q) (stop_here (suc allowed) i s at (λ h. absurd (omega arith)) (λ h. q) (λ h. on))
 
   stop_turn : (b : Bool) → leb 9 i && ended s at ≡ b → IfBad (suc allowed) i s at (parse_lines (suc allowed) i s at)

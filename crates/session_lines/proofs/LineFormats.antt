@@ -2,12 +2,11 @@
 use Prim.Native.Nat.{ℕ, zero, suc, ◌+◌, ◌^◌, ◌≤◌, ◌<◌}
 use mathlib.Core.Bool.{Bool, true, ◌&&◌, and-eq-true_iff}
 use mathlib.Core.List.{List, [], ◌∷◌}
-use mathlib.Core.Path.{◌≡◌, ap, refl, sym, ◌∙◌}
+use mathlib.Core.Path.{◌≡◌, ap, refl}
 use native.Mathlib.Omega.{arith}
-use borrow.Author.Tests.{ltb-true}
-use lib.Dec.{ltb}
+use borrow.Author.Tests.{ltb-true, leb-true}
+use lib.Dec.{ltb, leb}
 use lib.ListN.{get_or-eq_default, get_or, length}
-use lib.Seq.{sets}
 use Rattle.text.proofs.Writing.{length_line}
 use Rattle.session_lines.specs.LineFormats.{LineFormat, front_formats, format_of, line_for, word_format}
 
@@ -39,18 +38,20 @@ pub wide : (i : ℕ) → (format_of i).most < 16 ^ (format_of i).digits
 unfolding format_of front_formats
 wide i = ltb-true _ _ (each_fits front_formats i refl)
 
--- a line of the format that an index has
+-- and at most sixteen
+
+abbrev all_narrow : List LineFormat → Bool
+all_narrow [] = true
+all_narrow (format ∷ formats) = leb format.digits 16 && all_narrow formats
+
+each_narrow : (formats : List LineFormat) (i : ℕ) → all_narrow formats ≡ true → leb (get_or formats i word_format).digits 16 ≡ true
+each_narrow [] i h = refl
+each_narrow (format ∷ formats) zero h = ((and-eq-true_iff (leb format.digits 16) (all_narrow formats)).0 h).0
+each_narrow (format ∷ formats) (suc i) h = each_narrow formats i ((and-eq-true_iff (leb format.digits 16) (all_narrow formats)).0 h).1
+
+pub narrow : (i : ℕ) → (format_of i).digits ≤ 16
+unfolding format_of front_formats
+narrow i = leb-true _ _ (each_narrow front_formats i refl)
 
 pub length_for : (format : LineFormat) (v : ℕ) → length (line_for format v) ≡ length format.key + format.digits + 1
 length_for format v = length_line format.key format.digits v
-
-module _ (i v at : ℕ) (format : LineFormat) (e : format_of i ≡ format) where
-  same_size : length (line_for (format_of i) v) ≡ length format.key + format.digits + 1
-  same_size = ap (λ (f : LineFormat). length (line_for f v)) e ∙ length_for format v
-
-  pub room_for : (room : ℕ) → at + length (line_for (format_of i) v) ≤ room → at + (length format.key + format.digits + 1) ≤ room
-  room_for room h = omega (arith, same_size)
-
-  pub put_for : (out after : List ℕ) (r : ℕ) → r ≡ at + (length format.key + format.digits + 1) → after ≡ sets out at (line_for format v)
-      → (r ≡ at + length (line_for (format_of i) v)) × (after ≡ sets out at (line_for (format_of i) v))
-  put_for out after r place put = (omega (arith, same_size), put ∙ ap (λ (f : LineFormat). sets out at (line_for f v)) (sym e))

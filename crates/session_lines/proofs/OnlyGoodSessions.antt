@@ -8,8 +8,9 @@ use native.Mathlib.Omega.{arith}
 use borrow.Author.Tests.{leb-true}
 use lib.Dec.{leb}
 use lib.ListN.{length, drop, drop_of_length-le}
+use Rattle.std.proofs.Common.{Option, None, Some}
 use Rattle.text.specs.declared.Line.{Line}
-use Rattle.text.specs.declared.Line.TheVariants.{Is, Wrong}
+use Rattle.text.specs.Lines.{is_line}
 use Rattle.text.proofs.Framing.{line_says}
 use Rattle.session_lines.specs.LineFormats.{InRange, format_of, line_for, lines_from}
 use Rattle.session_lines.specs.Laws.{OnlyGoodIsRead}
@@ -29,7 +30,7 @@ IfRead allowed i s at p = (v : List ℕ) → p ≡ good v → Read allowed i s a
 
 module _ (allowed i : ℕ) (s : List ℕ) (at : ℕ) where
   read_bad : (number : ℕ) → IfRead allowed i s at (bad number)
-  read_bad number v e = let z : ◌≡◌ {A = ℕ} 0 1 = cc in absurd (omega arith)
+  read_bad number v e = cc
 
   read_none : 9 ≤ i → length s ≤ at → IfRead allowed i s at (good [])
   unfolding lines_from
@@ -41,7 +42,7 @@ module _ (allowed i : ℕ) (s : List ℕ) (at : ℕ) where
   read_end nine true e = read_none nine (leb-true _ _ e)
   read_end nine false e = read_bad (i + 1)
 
-  module _ (x next : ℕ) (line : line_of (format_of i) s at ≡ Is x next) where
+  module _ (x next : ℕ) (line : line_of (format_of i) s at ≡ is_line x next) where
     small : x ≤ (format_of i).most
     small = (line_says (format_of i).key (format_of i).digits (format_of i).most s at x next line).0
 
@@ -63,13 +64,13 @@ module _ (allowed i : ℕ) (s : List ℕ) (at : ℕ) where
 
     read_before : (p : Parsed) → IfRead allowed (i + 1) s next p → IfRead (suc allowed) i s at (before x p)
     read_before (good w) rest v e = let q : x ∷ w ≡ v = cc in rw (← q) (one_more w (rest w refl))
-    read_before (bad number) rest v e = let z : ◌≡◌ {A = ℕ} 0 1 = cc in absurd (omega arith)
+    read_before (bad number) rest v e = cc
 
 module _ (allowed i : ℕ) (s : List ℕ) (at : ℕ) (rest : (next : ℕ) → IfRead allowed (i + 1) s next (parse_lines allowed (i + 1) s next)) where
-  read_line : leb 9 i && ended s at ≡ false → (l : Line) → line_of (format_of i) s at ≡ l → IfRead (suc allowed) i s at (parse_lines (suc allowed) i s at)
-  read_line on (Is x next) q =
-      rw (one_read allowed i s at on x next q) (read_before allowed i s at x next q (parse_lines allowed (i + 1) s next) (rest next))
-  read_line on Wrong q = rw (one_wrong allowed i s at on q) (read_bad (suc allowed) i s at (i + 1))
+  read_line : leb 9 i && ended s at ≡ false → (l : Option Line) → line_of (format_of i) s at ≡ l → IfRead (suc allowed) i s at (parse_lines (suc allowed) i s at)
+  read_line on (Some line) q =
+      rw (one_read allowed i s at on line.value line.next q) (read_before allowed i s at line.value line.next q (parse_lines allowed (i + 1) s line.next) (rest line.next))
+  read_line on None q = rw (one_wrong allowed i s at on q) (read_bad (suc allowed) i s at (i + 1))
 
   read_turn : (b : Bool) → leb 9 i && ended s at ≡ b → IfRead (suc allowed) i s at (parse_lines (suc allowed) i s at)
   read_turn true e =

@@ -9,7 +9,8 @@ use borrow.Author.Tests.{le-leb, lt-leb, leb-true}
 use lib.Dec.{leb}
 use lib.ListN.{length, set, take}
 use lib.Seq.{take-suc-set}
-use Rattle.text.specs.declared.Line.TheVariants.{Is, Wrong}
+use Rattle.std.proofs.Common.{None}
+use Rattle.text.specs.Lines.{is_line}
 use Rattle.session_lines.specs.LineFormats.{format_of}
 use Rattle.session_lines.specs.Parsing.{Parsed, good, bad, before, ended, line_of, parse_lines, parsed}
 
@@ -33,11 +34,11 @@ module _ (allowed i : ℕ) (s : List ℕ) (at : ℕ) where
   all_read e = rw e
 
   module _ (e : leb 9 i && ended s at ≡ false) where
-    pub one_read : (v next : ℕ) → line_of (format_of i) s at ≡ Is v next → parse_lines (suc allowed) i s at ≡ before v (parse_lines allowed (i + 1) s next)
+    pub one_read : (v next : ℕ) → line_of (format_of i) s at ≡ is_line v next → parse_lines (suc allowed) i s at ≡ before v (parse_lines allowed (i + 1) s next)
     unfolding parse_lines
     one_read v next q = rw (e, q, parse_lines)
 
-    pub one_wrong : line_of (format_of i) s at ≡ Wrong → parse_lines (suc allowed) i s at ≡ bad (i + 1)
+    pub one_wrong : line_of (format_of i) s at ≡ None → parse_lines (suc allowed) i s at ≡ bad (i + 1)
     unfolding parse_lines
     one_wrong q = rw (e, q, parse_lines)
 
@@ -72,14 +73,14 @@ module _ (s : List ℕ) (at i : ℕ) (vs : List ℕ) (h : i < 265) (reached : Re
       ∙ reached
 
   module _ (e : leb 9 i && ended s at ≡ false) where
-    pub reached_next : (v next : ℕ) (ws : List ℕ) → line_of (format_of i) s at ≡ Is v next → i < length vs → ws ≡ set vs i v → Reached s next (i + 1) ws
+    pub reached_next : (v next : ℕ) (ws : List ℕ) → line_of (format_of i) s at ≡ is_line v next → i < length vs → ws ≡ set vs i v → Reached s next (i + 1) ws
     reached_next v next ws q inside stored =
         rw (stored, add-one i, take-suc-set vs i v inside, ← add-one i)
         (sym (behind_one (take i vs) v (parse_lines (265 - (i + 1)) (i + 1) s next))
         ∙ ap (behind (take i vs)) (sym (ap (λ (k : ℕ). parse_lines k i s at) left ∙ one_read (265 - (i + 1)) i s at e v next q))
         ∙ reached)
 
-    pub reached_wrong : line_of (format_of i) s at ≡ Wrong → bad (i + 1) ≡ parsed s
+    pub reached_wrong : line_of (format_of i) s at ≡ None → bad (i + 1) ≡ parsed s
     reached_wrong q =
         ap (behind (take i vs)) (sym (ap (λ (k : ℕ). parse_lines k i s at) left ∙ one_wrong (265 - (i + 1)) i s at e q)) ∙ reached
 

@@ -7,8 +7,9 @@ use native.Mathlib.Omega.{arith}
 use borrow.Author.Tests.{le-leb, lt-leb, leb-true, leb-false}
 use lib.Dec.{leb}
 use lib.ListN.{length, take, length-take}
+use Rattle.std.proofs.Common.{Option, None, Some}
 use Rattle.text.specs.declared.Line.{Line}
-use Rattle.text.specs.declared.Line.TheVariants.{Is, Wrong}
+use Rattle.text.specs.Lines.{is_line}
 use Rattle.text.proofs.Framing.{line_says}
 use Rattle.text.proofs.Prefix.{line_take}
 use Rattle.session_lines.specs.LineFormats.{format_of}
@@ -34,17 +35,17 @@ module _ (m allowed i : ℕ) (s : List ℕ) (at : ℕ) (h : at + span (suc allow
   unfolding size span
   same_line = line_take (format_of i).key (format_of i).digits (format_of i).most s at m (omega arith)
 
-  room_left : (v next : ℕ) → line_of (format_of i) s at ≡ Is v next → next + span allowed (i + 1) < m
+  room_left : (v next : ℕ) → line_of (format_of i) s at ≡ is_line v next → next + span allowed (i + 1) < m
   unfolding size span
   room_left v next q = let p = line_says (format_of i).key (format_of i).digits (format_of i).most s at v next q in omega arith
 
-  front_line : leb 9 i && ended s at ≡ false → (l : Line) → line_of (format_of i) s at ≡ l
+  front_line : leb 9 i && ended s at ≡ false → (l : Option Line) → line_of (format_of i) s at ≡ l
       → parse_lines (suc allowed) i (take m s) at ≡ parse_lines (suc allowed) i s at
-  front_line on (Is v next) q =
-      one_read allowed i (take m s) at (same_end ∙ on) v next (same_line ∙ q)
-      ∙ ap (before v) (rest next (room_left v next q))
-      ∙ sym (one_read allowed i s at on v next q)
-  front_line on Wrong q = one_wrong allowed i (take m s) at (same_end ∙ on) (same_line ∙ q) ∙ sym (one_wrong allowed i s at on q)
+  front_line on (Some line) q =
+      one_read allowed i (take m s) at (same_end ∙ on) line.value line.next (same_line ∙ q)
+      ∙ ap (before line.value) (rest line.next (room_left line.value line.next q))
+      ∙ sym (one_read allowed i s at on line.value line.next q)
+  front_line on None q = one_wrong allowed i (take m s) at (same_end ∙ on) (same_line ∙ q) ∙ sym (one_wrong allowed i s at on q)
 
   front_turn : (b : Bool) → leb 9 i && ended s at ≡ b → parse_lines (suc allowed) i (take m s) at ≡ parse_lines (suc allowed) i s at
   front_turn true e = all_read allowed i (take m s) at (same_end ∙ e) ∙ sym (all_read allowed i s at e)

@@ -1,7 +1,7 @@
 -- Laws of the definitions (document 01, "The session program"): each is stated here, and proved in proofs/ under its name
 -- (good_is_read, only_good_is_read, bad_is_first, prefix_says).
 use Rattle.std.specs.Prelude.{ℕ, ◌+◌, ◌≤◌, ◌<◌, false, ◌&&◌, List, ◌++◌, ◌≡◌, leb, length, take, drop}
-use Rattle.text.specs.declared.Line.TheVariants.{Wrong}
+use Rattle.std.specs.Prelude.{None}
 use Rattle.session_lines.specs.LineFormats.{GoodNumbers, InRange, format_of, lines_from}
 use Rattle.session_lines.specs.Parsing.{good, bad, ended, line_of, parsed}
 
@@ -21,7 +21,7 @@ pub record FirstWrong (s v : List ℕ) (at : ℕ) : Type 0 where
   pub place : at ≡ length (lines_from 0 v)
   pub text : s ≡ lines_from 0 v ++ drop at s
   pub extra : length v ≡ 265 → at < length s
-  pub wrong : length v < 265 → line_of (format_of (length v)) s at ≡ Wrong
+  pub wrong : length v < 265 → line_of (format_of (length v)) s at ≡ None
   pub needed : length v < 265 → leb 9 (length v) && ended s at ≡ false
 
 -- The number of a bad session is that of its first wrong, missing, unended or extra line.

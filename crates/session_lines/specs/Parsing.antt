@@ -1,8 +1,8 @@
 -- What a session's input says (document 01, "The session program").
 use Rattle.std.specs.Prelude.{ℕ, zero, suc, ◌+◌, Bool, cond, ◌&&◌, List, [], ◌∷◌, leb, length}
 use Rattle.text.specs.Lines.{line_at}
+use Rattle.std.specs.Prelude.{Option, None, Some}
 use Rattle.text.specs.declared.Line.{Line}
-use Rattle.text.specs.declared.Line.TheVariants.{Is, Wrong}
 use Rattle.session_lines.specs.LineFormats.{LineFormat, format_of}
 
 -- the numbers of all lines, or the number from 1 of the first wrong, missing, unended or extra line
@@ -15,8 +15,8 @@ abbrev pub before : ℕ → Parsed → Parsed
 before v (good vs) = good (v ∷ vs)
 before v (bad number) = bad number
 
--- the line of a format at a place of the text
-abbrev pub line_of : LineFormat → List ℕ → ℕ → Line
+-- the line of a format at a place of the text, if one stands there
+abbrev pub line_of : LineFormat → List ℕ → ℕ → Option Line
 line_of format s at = line_at format.key format.digits format.most s at
 
 abbrev pub ended : List ℕ → ℕ → Bool
@@ -29,7 +29,7 @@ parse_lines zero i s at = cond (ended s at) (good []) (bad (i + 1))
 -- behind the nine lines the text may end; otherwise a line of its format has to stand here
 parse_lines (suc allowed) i s at =
     cond (leb 9 i && ended s at) (good [])
-    (elim (line_of (format_of i) s at) [ Is v next ↦ before v (parse_lines allowed (i + 1) s next) | Wrong ↦ bad (i + 1) ])
+    (elim (line_of (format_of i) s at) [ Some line ↦ before line.value (parse_lines allowed (i + 1) s line.next) | None ↦ bad (i + 1) ])
 
 -- nine lines and up to 256 words
 abbrev pub parsed : List ℕ → Parsed

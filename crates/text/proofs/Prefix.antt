@@ -6,13 +6,13 @@ use Prim.Native.Nat.{ℕ, zero, suc, ◌+◌, ◌-◌, ◌*◌, ◌≤◌}
 use native.Mathlib.Nat.{zero-add, suc-add}
 use native.Mathlib.Omega.{arith}
 use lib.ListN.{length, get_or, take, drop, length-take}
-use lib.Dec.{ltb, leb, eqb}
+use lib.Dec.{leb, eqb}
 use lib.Seq.{take-nil, get_or-take}
 use borrow.Author.Tests.{le-leb, lt-leb, leb-true, leb-false}
 use Rattle.text.specs.Hex.{digit_value, read_hex}
 use Rattle.text.specs.Lines.{starts, framed, line_at}
-use Rattle.text.specs.declared.Hex.{Hex}
-use Rattle.text.specs.declared.Hex.TheVariants.{NotHex}
+use Rattle.std.proofs.Common.{Option, None, Some}
+use Rattle.std.specs.Option.{option_and_then}
 
 starts_take : (key l : List ℕ) (j : ℕ) → length key ≤ j → starts key (take j l) ≡ starts key l
 unfolding starts
@@ -26,7 +26,12 @@ unfolding read_hex
 read_take zero v l j h = refl
 read_take (suc n) v l zero h = absurd (omega arith)
 read_take (suc n) v [] (suc j) h = refl
-read_take (suc n) v (b ∷ l) (suc j) h = ap (λ (x : Hex). cond (ltb (digit_value b) 16) x NotHex) (read_take n (v * 16 + digit_value b) l j (omega arith))
+read_take (suc n) v (b ∷ l) (suc j) h = onward (λ (w : ℕ). read_take n w l j (omega arith)) (digit_value b)
+  where
+    onward : ((w : ℕ) → read_hex n w (take j l) ≡ read_hex n w l) → (x : Option ℕ)
+        → option_and_then (λ (d : ℕ). read_hex n (v * 16 + d) (take j l)) x ≡ option_and_then (λ (d : ℕ). read_hex n (v * 16 + d) l) x
+    onward same None = refl
+    onward same (Some d) = same (v * 16 + d)
 
 drop_take : (a j : ℕ) (l : List ℕ) → drop a (take (a + j) l) ≡ take j (drop a l)
 drop_take zero j l = rw zero-add

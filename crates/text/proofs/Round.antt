@@ -1,42 +1,29 @@
 -- What is written reads back: the n digits of a number below 16 ^ n, with anything behind them, and a line, wherever it stands.
 -- Assumes nothing.
 use mathlib.Core.Path.{◌≡◌, refl, ap, sym, ◌∙◌}
-use mathlib.Core.Bool.{Bool, true, false}
+use mathlib.Core.Bool.{true}
 use mathlib.Core.List.{List, [], ◌∷◌, ◌++◌, append_assoc}
-use Prim.Native.Nat.{ℕ, zero, suc, ◌+◌, ◌*◌, ◌/◌, ◌%◌, ◌^◌, ◌≤◌, ◌<◌}
+use Prim.Native.Nat.{ℕ, zero, suc, ◌+◌, ◌*◌, ◌/◌, ◌%◌, ◌^◌, ◌<◌}
 use native.Mathlib.Nat.{zero-add, add_assoc, pow-suc, mul_assoc}
 use native.Mathlib.Omega.{arith}
-use lib.Dec.{ltb}
 use lib.ListN.{length, get_or, drop, length-append, length-map}
 use lib.Seq.{drop-append_seam, drop-append-add, get_or-append-add, get_or_at}
-use borrow.Author.Tests.{lt-ltb, le-ltb, le-leb, lt-leb, eq-eqb, ltb-true, ltb-false}
+use borrow.Author.Tests.{eq-eqb}
 use Rattle.text.specs.Hex.{digit_value, digit_of, read_hex, hex_digits, digits_text, digits_in, low_bits}
 use Rattle.text.specs.Lines.{starts, framed, capped, line_text, digits_line, digits_line_at}
 use Rattle.text.specs.RoundTrip.{LineBack, DigitsLineBack}
-use Rattle.text.specs.declared.Hex.TheVariants.{Value}
+use Rattle.std.proofs.Common.{Some}
+use Rattle.std.proofs.lemmas.Bool.Decides.{nat_tests}
 use Rattle.text.proofs.Framing.{frame_end, line_framed, capped_is}
 use Rattle.text.proofs.Writing.{length_digits, length_digits_text}
 
-low_back : (v : ℕ) → v < 10 → digit_value (digit_of v) ≡ v
+pub digit_back : (v : ℕ) → v < 16 → digit_value (digit_of v) ≡ Some v
 unfolding digit_value digit_of
-low_back v h =
-    simp (lt-ltb v 10 h, le-ltb (48 + v) 48 (omega arith), le-leb (48 + v) 57 (omega arith)) (omega arith)
-
-high_back : (v : ℕ) → 10 ≤ v → v < 16 → digit_value (digit_of v) ≡ v
-unfolding digit_value digit_of
-high_back v h k =
-    simp (le-ltb v 10 h, le-ltb (87 + v) 48 (omega arith), lt-leb (87 + v) 57 (omega arith), le-ltb (87 + v) 97 (omega arith), le-leb (87 + v) 102 (omega arith)) (omega arith)
-
-digit_by : (v : ℕ) → v < 16 → (b : Bool) → ltb v 10 ≡ b → digit_value (digit_of v) ≡ v
-digit_by v h true e = low_back v (ltb-true _ _ e)
-digit_by v h false e = high_back v (ltb-false _ _ e) h
-
-pub digit_back : (v : ℕ) → v < 16 → digit_value (digit_of v) ≡ v
-digit_back v h = digit_by v h (ltb v 10) refl
+digit_back v h = grind (arith, nat_tests)
 
 read_digit : (m w d : ℕ) (l : List ℕ) → d < 16 → read_hex (suc m) w (digit_of d ∷ l) ≡ read_hex m (w * 16 + d) l
 unfolding read_hex
-read_digit m w d l h = rw (digit_back d h, lt-ltb d 16 h)
+read_digit m w d l h = rw (digit_back d h)
 
 -- the digits of a number, behind digits that spell w and with m more behind them
 digits_back : (n m w v : ℕ) (l : List ℕ) → v < 16 ^ n → read_hex (n + m) w (hex_digits n v ++ l) ≡ read_hex m (w * 16 ^ n + v) l
@@ -56,12 +43,12 @@ digits_back (suc n) m w v l h =
     ∙ read_digit m (w * 16 ^ n + v / 16) (v % 16) l small
     ∙ ap (λ (k : ℕ). read_hex m k l) all)
 
-pub number_back : (n v : ℕ) (l : List ℕ) → v < 16 ^ n → read_hex n 0 (hex_digits n v ++ l) ≡ Value v
+pub number_back : (n v : ℕ) (l : List ℕ) → v < 16 ^ n → read_hex n 0 (hex_digits n v ++ l) ≡ Some v
 unfolding read_hex
 number_back n v l h =
     let e : 0 * 16 ^ n + v ≡ v = omega arith in
     let z : n + 0 ≡ n = omega arith in
-    ap (λ (k : ℕ). read_hex k 0 (hex_digits n v ++ l)) (sym z) ∙ digits_back n 0 0 v l h ∙ ap Value e
+    ap (λ (k : ℕ). read_hex k 0 (hex_digits n v ++ l)) (sym z) ∙ digits_back n 0 0 v l h ∙ ap Some e
 
 starts_self : (key l : List ℕ) → starts key (key ++ l) ≡ true
 unfolding starts
@@ -95,7 +82,7 @@ unfolding line_text
 line_back key n most v before behind h k =
     let digits : List ℕ = hex_digits n v in
     let s : List ℕ = standing before key digits behind in
-    let number : read_hex n 0 (drop (length before + length key) s) ≡ Value v = rw (at_digits before key digits behind) (number_back n v (10 ∷ behind) h) in
+    let number : read_hex n 0 (drop (length before + length key) s) ≡ Some v = rw (at_digits before key digits behind) (number_back n v (10 ∷ behind) h) in
     rw (append_assoc, append_assoc)
     (line_framed key n most s (length before) (frame_back before key digits behind n (length_digits n v))
     ∙ ap (capped most (length before + (length key + n + 1))) number
@@ -106,7 +93,7 @@ unfolding digits_text digits_in low_bits digit_value
 digits_in_back [] l = refl
 digits_in_back (b ∷ t) l =
     let small : b % 16 < 16 = omega arith in
-    rw (digit_back (b % 16) small, lt-ltb (b % 16) 16 small) (ap (λ (r : List ℕ). b % 16 ∷ r) (digits_in_back t l))
+    rw (digit_back (b % 16) small) (ap (λ (r : List ℕ). b % 16 ∷ r) (digits_in_back t l))
 
 pub digits_line_back : DigitsLineBack
 unfolding digits_line digits_line_at

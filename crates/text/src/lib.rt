@@ -8,118 +8,87 @@ ghost use Rattle.std.proofs.lemmas.List.Edits.{sets};
 ghost use Rattle.text.specs.Hex.{digit_value, digit_of, read_hex, hex_digits, digits_text};
 ghost use Rattle.text.specs.Lines.{starts, room_for, framed, line_at, line_text, digits_line};
 
-// What some bytes spell.
-#[derive(Clone, Copy)]
-pub enum Hex {
-    Value(u64),
-    NotHex,
+// A line that stands at a place: its number, and the place after it.
+#[derive(Clone, Copy, Debug, PartialEq, Eq)]
+pub struct Line {
+    pub value: u64,
+    pub next: usize,
 }
 
-// What stands at a place: a line with its number and the place after it.
-#[derive(Clone, Copy)]
-pub enum Line {
-    Is { value: u64, next: usize },
-    Wrong,
-}
-
-// The number of a lower-case hex digit, and 16 of any other byte.
-fn value(b: u8) -> u64
+// The number of a lower-case hex digit; no other byte has one.
+#[tactic(auto, unfolding(crate::specs::Hex::digit_value))]
+fn value(b: u8) -> Option<u64>
     ensures { result ≡ digit_value b }
 {
-    if b < b'0' {
-        16
-    } else if b <= b'9' {
-        b as u64 - 48
-    } else if b < b'a' {
-        16
-    } else if b <= b'f' {
-        b as u64 - 87
-    } else {
-        16
+    match b {
+        b'0'..=b'9' => Some(u64::from(b - b'0')),
+        b'a'..=b'f' => Some(u64::from(b - b'a' + 10)),
+        _ => None,
     }
 }
 
 // The hex digit of a number.
+#[tactic(auto, unfolding(crate::specs::Hex::digit_of))]
 fn digit(v: u64) -> u8
     requires { v < 16 }
     ensures { result ≡ digit_of v }
 {
-    if v < 10 { 48 + v as u8 } else { 87 + v as u8 }
+    if v < 10 {
+        b'0' + v as u8
+    } else {
+        b'a' + (v as u8 - 10)
+    }
 }
 
-// The number that the n bytes from at on spell.
-pub fn hex_at(s: &[u8], at: usize, n: usize) -> Hex
+// The number that the n bytes from at on spell, if they spell one.
+pub fn hex_at(s: &[u8], at: usize, n: usize) -> Option<u64>
     requires n_in_bounds { at + n ≤ length s.now }
     requires n_bound { n ≤ 16 }
     ensures { result ≡ read_hex n 0 (drop at s.now) }
 {
-    let mut v: u64 = 0;
-    let mut i = 0;
-    while i < n {
-        let d = value(s[at + i]);
-        if 15 < d {
-            return Hex::NotHex;
-        }
-        v = v * 16 + d;
-        i += 1;
+    let mut v = 0;
+    for &b in &s[at..at + n] {
+        v = v * 16 + value(b)?;
     }
-    Hex::Value(v)
+    Some(v)
 }
 
 // Whether the key stands at at.
+#[tactic(auto, using(crate::proofs::Reading::starts_from))]
 pub fn key_at(s: &[u8], at: usize, key: &[u8]) -> bool
     requires { at + length key.now ≤ length s.now }
     ensures { result ≡ starts key.now (drop at s.now) }
 {
-    let mut i = 0;
-    while i < key.len() {
-        if key[i] != s[at + i] {
-            return false;
-        }
-        i += 1;
-    }
-    true
+    s[at..].starts_with(key)
 }
 
 // Whether the key, n bytes and a line feed stand at at.
+#[tactic(auto, unfolding(crate::specs::Lines::framed))]
 fn frame(s: &[u8], at: usize, key: &[u8], n: usize) -> bool
     requires { n ≤ 16 }
     ensures { result ≡ framed key.now n s.now at }
 {
     let size = key.len() + n + 1;
-    if s.len() < size {
-        return false;
-    }
-    if s.len() - size < at {
-        return false;
-    }
-    if !key_at(s, at, key) {
-        return false;
-    }
-    s[at + key.len() + n] == b'\n'
+    size <= s.len() && at <= s.len() - size && key_at(s, at, key) && s[at + key.len() + n] == b'\n'
 }
 
 // The line at at: the key, n digits of a number of at most most, a line feed. The place may be any; the count of digits is the
 // caller's and fits a number.
 #[tactic(auto, using(crate::proofs::Framing::frame_fits))]
-pub fn line_at(s: &[u8], at: usize, key: &[u8], n: usize, most: u64) -> Line
+pub fn line_at(s: &[u8], at: usize, key: &[u8], n: usize, most: u64) -> Option<Line>
     requires { n ≤ 16 }
     ensures { result ≡ line_at key.now n most s.now at }
 {
     if !frame(s, at, key, n) {
-        return Line::Wrong;
+        return None;
     }
     let digits = at + key.len();
-    match hex_at(s, digits, n) {
-        Hex::Value(v) => if v <= most {
-            Line::Is {
-                value: v,
-                next: digits + n + 1,
-            }
-        } else {
-            Line::Wrong
-        },
-        Hex::NotHex => Line::Wrong,
+    let value = hex_at(s, digits, n)?;
+    let next = digits + n + 1;
+    if value <= most {
+        Some(Line { value, next })
+    } else {
+        None
     }
 }
 
@@ -128,36 +97,29 @@ pub fn put_hex(out: &mut [u8], at: usize, n: usize, v: u64)
     requires { at + n ≤ length out.old }
     ensures { out.new ≡ sets out.old at (hex_digits n v) }
 {
-    let mut i = n;
     let mut rest = v;
-    while 0 < i {
-        i -= 1;
+    for i in (0..n).rev() {
         out[at + i] = digit(rest % 16);
         rest /= 16;
     }
 }
 
 // Puts the bytes of t at at.
+#[tactic(auto, using(crate::proofs::Writing::bytes_put))]
 pub fn put_bytes(out: &mut [u8], at: usize, t: &[u8])
     requires { at + length t.now ≤ length out.old }
     ensures { out.new ≡ sets out.old at t.now }
 {
-    let mut i = 0;
-    while i < t.len() {
-        out[at + i] = t[i];
-        i += 1;
-    }
+    out[at..at + t.len()].copy_from_slice(t);
 }
 
 // Puts the bytes of t at at if they fit in the room left there, and answers whether they did.
+#[tactic(auto, unfolding(crate::specs::Lines::room_for))]
 pub fn put_if_room(out: &mut [u8], at: usize, t: &[u8]) -> bool
     ensures value { result ≡ room_for out.old at t.now }
     ensures out_after { out.new ≡ cond result (sets out.old at t.now) out.old }
 {
-    if out.len() < at {
-        return false;
-    }
-    if out.len() - at < t.len() {
+    if out.len() < at || out.len() - at < t.len() {
         return false;
     }
     put_bytes(out, at, t);
@@ -169,10 +131,8 @@ fn put_digits(out: &mut [u8], at: usize, t: &[u8])
     requires { at + length t.now ≤ length out.old }
     ensures { out.new ≡ sets out.old at (digits_text t.now) }
 {
-    let mut i = 0;
-    while i < t.len() {
-        out[at + i] = digit((t[i] % 16) as u64);
-        i += 1;
+    for (i, b) in t.iter().enumerate() {
+        out[at + i] = digit(u64::from(*b % 16));
     }
 }
 

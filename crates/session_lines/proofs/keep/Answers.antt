@@ -1,7 +1,5 @@
 -- `session_lines::keep` meets its contract: the numbers of the nine lines and the words, one behind the other, are one list. Assumes nothing.
-use Prim.Native.Nat.{◌^◌, ◌<◌}
-use mathlib.Core.Path.{sym}
-use native.Mathlib.Omega.{arith}
+use Rattle.std.proofs.Common.{◌^◌, ◌<◌, sym, arith}
 use lib.Seq.{set-append_left}
 use Rattle.session_lines.proofs.LineFormats.{word_most}
 use Rattle.session_lines.proofs.Lists.{set_behind}

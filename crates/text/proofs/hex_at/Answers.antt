@@ -1,42 +1,44 @@
--- `text::hex_at` meets its contract. The invariant: the whole reads as what is left reads behind the digits so far, which are below 16 ^ i.
--- Assumes nothing.
-use borrow.Author.Rules.{rules}
-use mathlib.Core.Path.{◌≡◌, sym, ◌∙◌}
-use Prim.Native.Nat.{◌-◌, ◌<◌}
-use native.Mathlib.Nat.{add-zero, sub-zero}
-use native.Mathlib.Omega.{arith}
-use Rattle.text.specs.Hex.{read_hex}
-use Rattle.text.proofs.Reading.{read_turn, read_wrong, pow_turn, pow_room}
+-- `text::hex_at` meets its contract: a byte of the part is a byte of the text. Assumes nothing.
+use Rattle.std.proofs.Common.{arith, ℕ, List, ◌≡◌, ◌+◌, ◌-◌, ◌<◌, sym, ap, ◌∙◌, get_or, take, drop}
+use Rattle.std.proofs.lemmas.List.{get_or-take, get_or-drop}
+use Rattle.text.specs.Hex.{read_hex, digit_value}
+use Rattle.text.proofs.Reading.{digit_small, read_turn, read_wrong, pow_turn, pow_room}
 use Rattle.text.proofs.hex_at.Goals as goal
 
-pub loop-i-init : goal.loop-i-init
-loop-i-init c = (omega arith, omega arith, rw (sub-zero, add-zero))
-
-pub returns-then-d-gt15 : goal.returns-then-d-gt15
-returns-then-d-gt15 c = let l = c in
-    let a = l.args in
-    sym (l.loop-i.invariant.2 ∙ read_wrong a.s.now a.at a.n l.loop-i.i l.loop-i.v c.value-d.result (omega arith) (omega arith) c.value-d.ensures (omega arith))
+-- a byte of a part is a byte of the whole
+inside : (s : List ℕ) (at n i : ℕ) → i < n → get_or (take (at + n - at) (drop at s)) i 0 ≡ get_or s (at + i) 0
+inside s at n i h = get_or-take (at + n - at) (drop at s) i 0 (omega arith) ∙ get_or-drop at s i 0
 
 pub overflow_mul-v : goal.overflow_mul-v
-overflow_mul-v c = let l = c in
-    omega (arith, pow_room l.args.n l.loop-i.i l.loop-i.v c.value-d.result (omega arith) (omega arith) l.loop-i.invariant.1 (omega arith))
+overflow_mul-v c = omega (arith, pow_room c.args.n c.loop-b.b-index c.loop-b.v 0 (omega arith) (omega arith) c.loop-b.invariant.below (omega arith))
+
+pub returns-in_err-v : goal.returns-in_err-v
+returns-in_err-v c =
+    let a = c.args in
+    let i = c.loop-b.b-index in
+    let none = sym (c.in_err-v.ensures) in
+    c.from_residual.ensures
+    ∙ sym (c.loop-b.invariant.rest
+    ∙ read_wrong a.s.now a.at a.n i c.loop-b.v (omega arith) (omega arith) (ap digit_value (sym (inside a.s.now a.at a.n i (omega arith))) ∙ none))
 
 pub overflow_add-v : goal.overflow_add-v
-overflow_add-v c = let l = c in
-    omega (arith, pow_room l.args.n l.loop-i.i l.loop-i.v c.value-d.result (omega arith) (omega arith) l.loop-i.invariant.1 (omega arith))
+overflow_add-v c =
+    let small = digit_small _ _ (sym (c.in_ok-v.ensures)) in
+    omega (arith, pow_room c.args.n c.loop-b.b-index c.loop-b.v c.in_ok-v.field-0 (omega arith) (omega arith) c.loop-b.invariant.below small)
 
-pub loop-i-preserved : goal.loop-i-preserved
-loop-i-preserved c = let l = c in
-    let a = l.args in
-    let small : c.value-d.result < 16 = omega arith in (
-      search rules,
-      pow_turn l.loop-i.i l.loop-i.v c.value-d.result l.loop-i.invariant.1 small,
-      l.loop-i.invariant.2 ∙ read_turn a.s.now a.at a.n l.loop-i.i l.loop-i.v c.value-d.result (omega arith) (omega arith) c.value-d.ensures small,
-    )
+pub loop-b-preserved : goal.loop-b-preserved
+loop-b-preserved c =
+    let a = c.args in
+    let i = c.loop-b.b-index in
+    let some = sym (c.in_ok-v.ensures) in
+    record {
+      below = pow_turn i c.loop-b.v c.in_ok-v.field-0 c.loop-b.invariant.below (digit_small _ _ some);
+      rest = c.loop-b.invariant.rest
+          ∙ read_turn a.s.now a.at a.n i c.loop-b.v (omega arith) (omega arith) c.in_ok-v.field-0 (ap digit_value (sym (inside a.s.now a.at a.n i (omega arith))) ∙ some);
+    }
 
 pub returns : goal.returns
 unfolding read_hex
-returns c = let l = c in
-    let a = l.args in
-    let done : a.n - l.loop-i.i ≡ 0 = omega arith in
-    sym (l.loop-i.invariant.2 ∙ rw done)
+returns c =
+    let done : c.args.n - c.loop-b.b-index ≡ 0 = omega arith in
+    sym (c.loop-b.invariant.rest ∙ rw done)
