@@ -5,6 +5,7 @@ use super::player::Player;
 use super::writer::Writer;
 use isa::{Form, Mode};
 use machine::Code;
+use simulator::PlayError;
 
 // The lines that every state has.
 fn front(player: &Player<'_>) -> [(SettingKind, u64); 11] {
@@ -56,6 +57,15 @@ pub(crate) fn put_code(writer: &mut Writer<'_>, code: Code, count: Option<usize>
         Some(count) => writer.put(AnswerKind::Ran, &[code, count as u64]),
         None => writer.put(AnswerKind::Code, &[code]),
     }
+}
+
+// Puts the code of a list of calls, and how many were played. A refused list has played none.
+pub(crate) fn put_played(writer: &mut Writer<'_>, played: Result<usize, PlayError>) {
+    let (code, count) = match played {
+        Ok(count) => (0, count),
+        Err(error) => (u32::from(error), 0),
+    };
+    writer.put(AnswerKind::Played, &[u64::from(code), count as u64]);
 }
 
 // The mode of a form's line is the field of the word.

@@ -50,24 +50,16 @@ impl<'a> Playing<'a> {
         self.put_dump();
     }
 
-    // Plays the list of calls, lent as many places and words as `lend` allows, and puts its answer.
+    // Plays the list of calls, and puts its answer.
     fn play_list(&mut self) {
         let mut codes = [Code::Done; MOST_CALLS];
         let mut counts = [0usize; MOST_CALLS];
-        let played = self.player.play(
-            self.calls.calls(),
-            self.calls.words(self.lent.words),
-            &mut codes[..self.lent.codes.min(MOST_CALLS)],
-            &mut counts[..self.lent.counts.min(MOST_CALLS)],
-        );
-        let (code, count) = match played {
-            Ok(count) => (0, count),
-            Err(error) => (u32::from(error), 0),
-        };
-        self.writer
-            .put(AnswerKind::Played, &[u64::from(code), count as u64]);
-        let played = self.calls.calls().iter().zip(&codes).zip(&counts);
-        for ((call, code), count) in played.take(count) {
+        let played = self
+            .player
+            .play(&self.calls, self.lent, &mut codes, &mut counts);
+        answers::put_played(&mut self.writer, played);
+        let calls = self.calls.calls().iter().zip(&codes).zip(&counts);
+        for ((call, code), count) in calls.take(played.unwrap_or(0)) {
             let count = matches!(call, simulator::Call::Run(_)).then_some(*count);
             answers::put_code(&mut self.writer, *code, count);
         }

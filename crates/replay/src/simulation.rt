@@ -1,5 +1,6 @@
 // The calls of the simulator.
-use super::lines::Call;
+use super::calls::CallList;
+use super::lines::{Call, Lent};
 use super::player::Player;
 use machine::{Code, Setup};
 use simulator::{PlayError, Ran};
@@ -21,21 +22,30 @@ impl Player<'_> {
         ran
     }
 
-    // Plays a list of calls, and answers how many were played.
+    // Plays a list of calls, lent as many places and words as `lend` allows, and answers how many were played.
     pub(crate) fn play(
         &mut self,
-        calls: &[simulator::Call],
-        words: &[u32],
+        list: &CallList<'_>,
+        lent: Lent,
         codes: &mut [Code],
         counts: &mut [usize],
     ) -> Result<usize, PlayError> {
+        let lent_codes = lent.codes.min(codes.len());
+        let lent_counts = lent.counts.min(counts.len());
         let history = self.history.used_mut();
         let mut setup = Setup {
             machine: self.machine,
             bytes: self.data.used_mut(),
             tags: self.tags.used_mut(),
         };
-        let played = simulator::play(&mut setup, calls, words, history, codes, counts);
+        let played = simulator::play(
+            &mut setup,
+            list.calls(),
+            list.words(lent.words),
+            history,
+            &mut codes[..lent_codes],
+            &mut counts[..lent_counts],
+        );
         self.machine = setup.machine;
         played
     }
