@@ -9,9 +9,8 @@ use mathlib.Core.Path.{◌≡◌, refl, ap, sym, ◌∙◌}
 use native.Mathlib.Omega.{arith}
 use lib.Dec.{eqb}
 use lib.ListN.{length, take, drop, length-take}
-use Rattle.text.specs.Ascii.{ascii}
 use Rattle.text.specs.Lines.{starts}
-use Rattle.assembly.specs.SourceLines.{bytes_of, first_line, in_front, is_ended, lines_of, passed_over}
+use Rattle.assembly.specs.SourceLines.{bytes_of, first_line, in_front, lines_of}
 
 -- the first line feed, and the end where there is none
 
@@ -51,26 +50,6 @@ unfolding starts
 starts_as [] l = refl
 starts_as (k ∷ key) [] = refl
 starts_as (k ∷ key) (b ∷ l) = ap (λ (t : Bool). cond (eqb k b) t false) (starts_as key l) ∙ and_as_cond (eqb k b) (starts_with eqb l key)
-
-pub ended_long : (line : List ℕ) → is_ended line ≡ true → 1 ≤ length line
-unfolding is_ended
-ended_long [] e = let z : ◌≡◌ {A = ℕ} 0 1 = cc in absurd (omega arith)
-ended_long (b ∷ line) e = omega arith
-
--- which lines are passed over
-module _ (line : List ℕ) where
-  pub passed_unended : is_ended line ≡ false → passed_over line ≡ false
-  unfolding passed_over
-  passed_unended e = rw e
-
-  module _ (e : is_ended line ≡ true) where
-    pub passed_empty : starts (ascii "\n") line ≡ true → passed_over line ≡ true
-    unfolding passed_over
-    passed_empty q = rw (e, q)
-
-    pub passed_comment : starts (ascii "\n") line ≡ false → passed_over line ≡ starts (ascii "//") line
-    unfolding passed_over
-    passed_comment q = rw (e, q)
 
 -- the first line of a text is the text's front
 

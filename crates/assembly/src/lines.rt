@@ -5,23 +5,21 @@ ghost use Rattle.assembly.specs.SourceLines.{bytes_of, first_line, is_ended, lin
 
 // The lines of a text, each with its line feed; what stands behind the last line feed is an unended line.
 #[derive(Drop)]
-pub(crate) struct Lines<'a> {
-    pub(crate) rest: &'a [u8],
-}
+pub(crate) struct Lines<'a>(pub(crate) &'a [u8]);
 
 impl<'a> Iterator for Lines<'a> {
     type Item = &'a [u8];
 
-    ghost next_gives = { YieldsFirstRef (λ s. lines_of s.rest.now) };
+    ghost next_gives = { YieldsFirstRef (λ s. lines_of s.0.now) };
 
-    ghost remaining = { item_count (λ s. lines_of s.rest.now) };
+    ghost remaining = { item_count (λ s. lines_of s.0.now) };
 
     fn next(&mut self) -> Option<&'a [u8]> {
-        if self.rest.is_empty() {
+        if self.0.is_empty() {
             return None;
         }
-        let (line, rest) = self.rest.split_at(first_size(self.rest));
-        self.rest = rest;
+        let (line, rest) = self.0.split_at(first_size(self.0));
+        self.0 = rest;
         Some(line)
     }
 }
@@ -48,7 +46,7 @@ pub fn line_at(s: &[u8], at: usize) -> &[u8]
 pub(crate) fn behind_lines(s: &[u8], count: usize) -> usize
     ensures { result ≡ bytes_of count (lines_of s.now) }
 {
-    Lines { rest: s }.take(count).map(|line| line.len()).sum()
+    Lines(s).take(count).map(|line| line.len()).sum()
 }
 
 // Whether a line has its line feed.

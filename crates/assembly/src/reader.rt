@@ -62,7 +62,7 @@ pub(crate) fn read_numbers(s: &[u8], numbers: &mut [u64; 265]) -> Result<usize, 
     let mut at = 0;
     let mut number = 1;
     let mut i = 0;
-    for line in (Lines { rest: s }) {
+    for line in Lines(s) {
         match content_of(line, i) {
             Content::Passed => {},
             Content::Number(v) => {

@@ -1,8 +1,8 @@
 -- Texts put one behind another. Assumes nothing.
-use mathlib.Core.Path.{◌≡◌, refl, ap, sym, ◌∙◌, subst}
+use mathlib.Core.Path.{◌≡◌, refl, ap, sym, ◌∙◌}
 use mathlib.Core.Bool.{Bool, true, false, cond}
 use mathlib.Core.List.{List, [], ◌∷◌, ◌++◌}
-use Prim.Native.Nat.{ℕ, suc, ◌+◌, ◌-◌, ◌^◌, ◌≤◌, ◌<◌}
+use Prim.Native.Nat.{ℕ, ◌+◌, ◌-◌, ◌^◌, ◌≤◌, ◌<◌}
 use native.Mathlib.Numerals.{add-one}
 use native.Mathlib.Omega.{arith}
 use lib.ListN.{length, get_or, set, drop, length-append}
@@ -10,31 +10,17 @@ use lib.Dec.{ltb}
 use lib.Seq.{sets, drop-cons}
 use Rattle.text.proofs.Writing.{after}
 use Rattle.templates.specs.FieldText.{amount_text, register_text}
+use Rattle.templates.specs.Inside.Putting.{Puts}
 use Rattle.templates.specs.Templates.{piece_of, register_of, text_as, filled}
 use Rattle.templates.specs.declared.Fields.{Fields}
 use Rattle.templates.specs.declared.Piece.{Piece}
 use Rattle.templates.specs.declared.Piece.TheVariants.{Literal, SpRegister, ZeroRegister, Amount, TagOffset}
 use Rattle.templates.proofs.Decimals.{decimal_short}
 
--- what a function that puts a text at a place answers and leaves
-abbrev pub Puts : List ℕ → ℕ → List ℕ → ℕ → List ℕ → Type 0
-Puts l at text next last = (next ≡ at + length text) × (last ≡ sets l at text)
-
 -- a text, and a byte behind it
 pub byte_behind : (l : List ℕ) (at g : ℕ) (t u : List ℕ) (next : ℕ) (last : List ℕ) → u ≡ t ++ (g ∷ []) → Puts l at t next last → Puts l at u (next + 1) (set last next g)
 byte_behind l at g t u next last e f =
     (rw (e, length-append) (omega (arith, f.0)), after l at t (length t) last next (g ∷ []) refl f.1 f.0 ∙ ap (sets l at) (sym e))
-
--- a byte, and a text behind it
-pub text_behind : (l : List ℕ) (at g : ℕ) (t u : List ℕ) (next : ℕ) (last : List ℕ) → t ≡ u → Puts (set l at g) (at + 1) t next last
-    → Puts l at (g ∷ u) next last
-text_behind l at g t u next last e f =
-    let n : at + 1 ≡ suc at = omega arith in
-    (omega (arith, f.0, ap length e), f.1 ∙ rw (n, e))
-
--- a text by another name
-pub same_text : (l : List ℕ) (at : ℕ) {t u : List ℕ} (next : ℕ) (last : List ℕ) → t ≡ u → Puts l at t next last → Puts l at u next last
-same_text l at next last e f = subst (λ (k : List ℕ). Puts l at k next last) e f
 
 -- no piece is longer than 21 bytes
 shorter : (b : Bool) (x y : List ℕ) (n : ℕ) → length x ≤ n → length y ≤ n → length (cond b x y) ≤ n

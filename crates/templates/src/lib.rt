@@ -5,6 +5,7 @@
 ghost use Rattle.std.specs.Prelude.{◌≡◌, ◌+◌, ◌≤◌, ◌<◌, length};
 ghost use Rattle.std.proofs.lemmas.List.Edits.{sets};
 ghost use Rattle.templates.specs.FieldText.{decimal, amount_text, register_text};
+ghost use Rattle.templates.specs.Inside.Putting.{Puts};
 ghost use Rattle.templates.specs.Templates.{template_at, piece_of, register_of, text_as, filled};
 
 pub mod reader;
@@ -106,9 +107,10 @@ fn digit(v: u64) -> u8
 // Each function that puts a text at at answers the place behind it.
 
 // Puts a decimal number, which has at most 20 digits.
+#[tactic(auto, using(crate::proofs::Decimals::decimal_one, crate::proofs::Decimals::tenth_short))]
 fn put_decimal(out: &mut [u8], at: usize, v: u64) -> usize
     requires { at + 20 ≤ length out.old }
-    ensures { (result ≡ at + length (decimal v)) × (out.new ≡ sets out.old at (decimal v)) }
+    ensures { Puts out.old at (decimal v) result out.new }
 {
     if v < 10 {
         out[at] = digit(v);
@@ -123,7 +125,7 @@ fn put_decimal(out: &mut [u8], at: usize, v: u64) -> usize
 #[tactic(auto, unfolding(crate::specs::FieldText::amount_text))]
 fn put_amount(out: &mut [u8], at: usize, v: u64) -> usize
     requires { at + 21 ≤ length out.old }
-    ensures { (result ≡ at + length (amount_text v)) × (out.new ≡ sets out.old at (amount_text v)) }
+    ensures { Puts out.old at (amount_text v) result out.new }
 {
     if v < 1 << 63 {
         put_decimal(out, at, v)
@@ -135,7 +137,7 @@ fn put_amount(out: &mut [u8], at: usize, v: u64) -> usize
 
 fn put_name(out: &mut [u8], at: usize, name: &[u8]) -> usize
     requires { at + length name.now ≤ length out.old }
-    ensures { (result ≡ at + length name.now) × (out.new ≡ sets out.old at name.now) }
+    ensures { Puts out.old at name.now result out.new }
 {
     text::put_bytes(out, at, name);
     at + name.len()
@@ -145,7 +147,7 @@ fn put_name(out: &mut [u8], at: usize, name: &[u8]) -> usize
 #[tactic(auto, unfolding(crate::specs::FieldText::register_text))]
 fn put_register(out: &mut [u8], at: usize, r: u64, zero: bool) -> usize
     requires { at + 21 ≤ length out.old }
-    ensures { (result ≡ at + length (register_text zero r)) × (out.new ≡ sets out.old at (register_text zero r)) }
+    ensures { Puts out.old at (register_text zero r) result out.new }
 {
     if r < 31 {
         out[at] = b'x';
@@ -161,7 +163,7 @@ fn put_register(out: &mut [u8], at: usize, r: u64, zero: bool) -> usize
 #[tactic(auto, unfolding(crate::specs::Templates::text_as))]
 fn put_piece(out: &mut [u8], at: usize, l: u8, f: Fields) -> usize
     requires { at + 21 ≤ length out.old }
-    ensures { (result ≡ at + length (text_as (piece_of l) l f)) × (out.new ≡ sets out.old at (text_as (piece_of l) l f)) }
+    ensures { Puts out.old at (text_as (piece_of l) l f) result out.new }
 {
     match piece_of(l) {
         Piece::Literal => {

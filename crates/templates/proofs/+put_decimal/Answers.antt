@@ -1,23 +1,8 @@
-use Rattle.std.proofs.Common.{◌+◌, ◌/◌, ◌∷◌, ◌++◌, [], ℕ, List, length, arith, sym, ap, ◌∙◌, slice_set}
-use Rattle.std.proofs.lemmas.List.Edits.{sets}
+use Rattle.std.proofs.Common.{◌/◌, ◌∷◌, ◌++◌, [], ℕ, arith, sym, ap, ◌∙◌}
 use Rattle.templates.specs.FieldText.{decimal}
-use Rattle.templates.proofs.Decimals.{decimal_one, decimal_last, tenth_short}
+use Rattle.templates.proofs.Decimals.{decimal_last}
 use Rattle.templates.proofs.Writing.{byte_behind}
 use Rattle.templates.proofs.+put_decimal.Goals as goal
-
-pub returns-then-v-lt10 : goal.returns-then-v-lt10
-returns-then-v-lt10 t c =
-    let a = c.args in
-    let e = decimal_one a.v c.if-v-lt10.true in
-    (ap (λ (l : List ℕ). a.at + length l) (sym e), ap (slice_set a.out.now a.at) c.digit.ensures ∙ sym (ap (sets a.out.now a.at) e))
-
-pub bounds-out-last : goal.bounds-out-last
-bounds-out-last t c =
-    omega (arith, tenth_short c.args.v (omega arith), c.put_decimal-last.ensures.0, c.put_decimal-last.auto.out)
-
-pub overflow_add-result-2 : goal.overflow_add-result-2
-overflow_add-result-2 t c =
-    omega (arith, tenth_short c.args.v (omega arith), c.put_decimal-last.ensures.0)
 
 pub returns : goal.returns
 returns t c =

@@ -12,12 +12,12 @@ sum-requires c =
     record {
       can = search of_calls;
       finite = search of_calls;
-      fits = fits_from_yields_list c.map.result _ (YieldsList-from_map _ length (YieldsList-from_take c.args.count (YieldsList-from_first (λ x. x.now) (λ (l : Lines). lines_of l.rest.now) (lines_of s) (cc)) (cc)) c.map.ensures.closure (λ x r q k. search (rules, tests)))
+      fits = fits_from_yields_list c.map.result _ (YieldsList-from_map _ length (YieldsList-from_take c.args.count (YieldsList-from_first (λ x. x.now) (λ (l : Lines). lines_of l.0.now) (lines_of s) (cc)) (cc)) c.map.ensures.closure (λ x r q k. search (rules, tests)))
           (omega (arith, sum_total c.args.count (lines_of s), bytes_short c.args.count s));
     }
 
 pub returns : goal.returns
 returns c =
     let s = c.args.s.now in
-    sum_from_yields_List c.map.result _ c.sum.ensures.ran (YieldsList-from_map _ length (YieldsList-from_take c.args.count (YieldsList-from_first (λ x. x.now) (λ (l : Lines). lines_of l.rest.now) (lines_of s) (cc)) (cc)) c.map.ensures.closure (λ x r q k. search (rules, tests)))
+    sum_from_yields_List c.map.result _ c.sum.ensures.ran (YieldsList-from_map _ length (YieldsList-from_take c.args.count (YieldsList-from_first (λ x. x.now) (λ (l : Lines). lines_of l.0.now) (lines_of s) (cc)) (cc)) c.map.ensures.closure (λ x r q k. search (rules, tests)))
     ∙ sum_total c.args.count (lines_of s)

@@ -9,7 +9,7 @@ use Rattle.assembly.proofs.reader.read_numbers.Goals.{in-Passed, in-Number}
 
 pub loop-line-init : goal.loop-line-init
 loop-line-init c =
-    let e = ap (λ (l : Lines). lines_of l.rest.now) c.into_iter-line-iterator.ensures.into_iter_gives in
+    let e = ap (λ (l : Lines). lines_of l.0.now) c.into_iter-line-iterator.ensures.into_iter_gives in
     record {
       bytes = omega (arith, total_all c.args.s.now, ap total e);
       lines = omega (arith, count_short c.args.s.now, ap length e);
@@ -31,7 +31,7 @@ loop-line-preserved c =
     let l = c.loop-line in
     let n = c.match-content_of in
     let line = c.in-Some.line.now in
-    let rest = lines_of c.next.new.self.rest.now in
+    let rest = lines_of c.next.new.self.0.now in
     let cut = c.in-Some.ensures.steps in
     let read : (n.i ≤ 265) × (length n.numbers ≡ 265) × Reached (lines_of c.args.s.now) rest (l.number + 1) n.i (l.at + length line) n.numbers =
     elim n.branch [

@@ -5,15 +5,15 @@ use Rattle.assembly.proofs.lines.LinesIterator.next.Goals as goal
 
 pub returns-then-is_empty-clause-steps : goal.returns-then-is_empty-clause-steps
 returns-then-is_empty-clause-steps c =
-    let none : length c.args.self.now.rest.now ≡ 0 = search rules in
+    let none : length c.args.self.now.0.now ≡ 0 = search rules in
     (no_lines _ none, no_lines _ none)
 
 pub split_at-requires : goal.split_at-requires
-split_at-requires c = omega (arith, c.first_size.ensures, first_within c.args.self.now.rest.now)
+split_at-requires c = omega (arith, c.first_size.ensures, first_within c.args.self.now.0.now)
 
 pub returns-clause-steps : goal.returns-clause-steps
 returns-clause-steps c =
-    let s = c.args.self.now.rest.now in
+    let s = c.args.self.now.0.now in
     let some : 0 < length s = search rules in
     let line = c.split_at.ensures.front ∙ ap (λ (n : ℕ). take n s) c.first_size.ensures ∙ first_front s in
     let rest = c.split_at.ensures.back ∙ ap (λ (n : ℕ). drop n s) c.first_size.ensures in
@@ -21,5 +21,5 @@ returns-clause-steps c =
 
 pub returns-clause-goes : goal.returns-clause-goes
 returns-clause-goes c =
-    let fewer : length (lines_of c.split_at.result.1.now) < length (lines_of c.args.self.now.rest.now) = omega (arith, ap length (returns-clause-steps c)) in
+    let fewer : length (lines_of c.split_at.result.1.now) < length (lines_of c.args.self.now.0.now) = omega (arith, ap length (returns-clause-steps c)) in
     search rules
