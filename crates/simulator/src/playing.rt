@@ -42,9 +42,10 @@ pub enum PlayError {
 }
 
 impl From<PlayError> for u32 {
+    ghost use Rattle.std.specs.Prelude.{Err};
     ghost use Rattle.simulator.specs.Playing.{play_number};
 
-    ghost from_gives = { λ error number. number ≡ play_number error };
+    ghost from_gives = { λ error number. number ≡ play_number (Err error) };
 
     fn from(error: PlayError) -> u32 {
         match error {
