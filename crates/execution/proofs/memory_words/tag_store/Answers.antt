@@ -17,7 +17,7 @@ returns-clause-taken c =
       n = c.field.result;
       amount = c.signed.result;
       granules = 1 + c.field-3.result;
-      tag = c.tag_of.result;
+      tag = c.of.result;
       change = c.zeroed_if.result;
     } in
     let s = standing a.setup.now a.history.now in
@@ -26,7 +26,7 @@ returns-clause-taken c =
       op_granules a.w,
       op_zeroing a.w,
       c.zeroed_if.ensures,
-      c.tag_of.ensures.value,
+      c.of.ensures,
       c.x_or_sp.ensures,
       c.signed.ensures,
       c.field.ensures,
