@@ -111,7 +111,8 @@ fn entry_for(setup: &Setup<'_>, register: u64, granules: usize, first: usize, sa
     }
 }
 
-// Records a register and granules, with their data or without.
+// Records a register and granules, with their data or without. Inlined, as `carry_out`.
+#[inline(always)]
 fn record(
     setup: &mut Setup<'_>,
     register: u64,
@@ -171,7 +172,8 @@ fn writes(change: DataChange) -> bool
     }
 }
 
-// Judges a store, records it and carries it out.
+// Judges a store, records it and carries it out. Inlined, so that it is compiled for one granule and for two.
+#[inline(always)]
 fn carry_out(setup: &mut Setup<'_>, e: Store, history: &mut [u64]) -> Result<(), Code>
     requires register_bound { e.n < 32 }
     requires amount_whole { e.amount % 16 ≡ 0 }
@@ -202,6 +204,7 @@ fn carry_out(setup: &mut Setup<'_>, e: Store, history: &mut [u64]) -> Result<(),
     Ok(())
 }
 
+// Data that is zeroed or not.
 fn zeroed_if(zeroes: bool) -> DataChange
     ensures { change_in result ≡ zeroed_if zeroes }
 {
@@ -224,11 +227,15 @@ fn tag_store(setup: &mut Setup<'_>, mode: Mode, w: u64, history: &mut [u64]) -> 
         mode,
         n: bits::field(w, 5, 5),
         amount: decoder::signed(bits::field(w, 12, 9), 256),
-        granules: 1 + bits::field(w, 23, 1) as usize,
+        granules: 1,
         tag: Tag::of(setup.machine.registers.x_or_sp(t)),
         change: zeroed_if(bits::field(w, 22, 1) == 1),
     };
-    carry_out(setup, e, history)
+    if bits::field(w, 23, 1) == 1 {
+        carry_out(setup, Store { granules: 2, ..e }, history)
+    } else {
+        carry_out(setup, e, history)
+    }
 }
 
 // STGP. The tag is that of the address, not of the base register.

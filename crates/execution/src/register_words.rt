@@ -77,7 +77,8 @@ fn irg(setup: &mut Setup<'_>, d: u64, rn: u64, rm: u64, history: &mut [u64])
     setup.machine.registers.status = after;
 }
 
-// SUBP, SUBPS, IRG, GMI.
+// SUBP, SUBPS, IRG, GMI. Inlined, so that it is compiled for each.
+#[inline(always)]
 fn two_registers(setup: &mut Setup<'_>, op: TwoSourceOp, w: u64, history: &mut [u64])
     requires { well_formed (standing setup.old history.old) ≡ true }
     ensures loans { SameLoans setup.old setup.new }
