@@ -23,7 +23,7 @@ pub(crate) enum Line {
     Ask(Question),
 }
 
-// What is set.
+// What is set. Where two numbers stand the first says which: a register or an index.
 #[derive(Clone, Copy)]
 pub(crate) enum Setting {
     Fresh(u64),
