@@ -15,6 +15,7 @@ use history::Entry;
 use instructions::{accesses, tag_load};
 use isa::{Mode, decoder};
 use machine::{Code, Setup};
+use tag::Tag;
 
 // What becomes of the data of a store's granules.
 #[derive(Clone, Copy)]
@@ -31,7 +32,7 @@ struct Store {
     n: u64,
     amount: u64,
     granules: usize,
-    tag: u8,
+    tag: Tag,
     change: DataChange,
 }
 
@@ -47,7 +48,7 @@ fn loaded(setup: &Setup<'_>, w: u64) -> Result<u64, Code>
     let rn = setup.machine.registers.x_or_sp(n);
     let i = accesses::place_load(settings, setup.tags.len(), n, rn, amount)?;
     let tag = tag_load::load(settings, setup.tags, i);
-    Ok(tag::with_tag(setup.machine.registers.x_or_zero(t), tag))
+    Ok(tag.put_in(setup.machine.registers.x_or_zero(t)))
 }
 
 // LDG.
@@ -110,7 +111,8 @@ fn entry_for(setup: &Setup<'_>, register: u64, granules: usize, first: usize, sa
     }
 }
 
-// Records a register and granules, with their data or without.
+// Records a register and granules, with their data or without. Inlined, as `carry_out`.
+#[inline(always)]
 fn record(
     setup: &mut Setup<'_>,
     register: u64,
@@ -149,14 +151,14 @@ fn change_data(bytes: &mut [u8], first: usize, granules: usize, change: DataChan
 }
 
 // Gives granules from first on a tag, or leaves theirs.
-fn tag_if(tags: &mut [u8], first: usize, granules: usize, tagged: bool, tag: u8)
+fn tag_if(tags: &mut [u8], first: usize, granules: usize, tagged: bool, tag: Tag)
     requires le_granules { 1 ≤ granules }
     requires granules_bound { granules ≤ 2 }
     requires granules_in_bounds { first + granules ≤ length tags.old }
-    ensures { tags.new ≡ sets tags.old first (new_tags granules tagged tag) }
+    ensures { tags.new ≡ sets tags.old first (new_tags granules tagged tag.value) }
 {
     if tagged {
-        memory::store_tags(tags, first, granules, tag);
+        memory::store_tags(tags, first, granules, tag.value);
     }
 }
 
@@ -170,7 +172,8 @@ fn writes(change: DataChange) -> bool
     }
 }
 
-// Judges a store, records it and carries it out.
+// Judges a store, records it and carries it out. Inlined, so that it is compiled for one granule and for two.
+#[inline(always)]
 fn carry_out(setup: &mut Setup<'_>, e: Store, history: &mut [u64]) -> Result<(), Code>
     requires register_bound { e.n < 32 }
     requires amount_whole { e.amount % 16 ≡ 0 }
@@ -201,6 +204,7 @@ fn carry_out(setup: &mut Setup<'_>, e: Store, history: &mut [u64]) -> Result<(),
     Ok(())
 }
 
+// Data that is zeroed or not.
 fn zeroed_if(zeroes: bool) -> DataChange
     ensures { change_in result ≡ zeroed_if zeroes }
 {
@@ -223,11 +227,15 @@ fn tag_store(setup: &mut Setup<'_>, mode: Mode, w: u64, history: &mut [u64]) -> 
         mode,
         n: bits::field(w, 5, 5),
         amount: decoder::signed(bits::field(w, 12, 9), 256),
-        granules: 1 + bits::field(w, 23, 1) as usize,
-        tag: tag::tag_of(setup.machine.registers.x_or_sp(t)),
+        granules: 1,
+        tag: Tag::of(setup.machine.registers.x_or_sp(t)),
         change: zeroed_if(bits::field(w, 22, 1) == 1),
     };
-    carry_out(setup, e, history)
+    if bits::field(w, 23, 1) == 1 {
+        carry_out(setup, Store { granules: 2, ..e }, history)
+    } else {
+        carry_out(setup, e, history)
+    }
 }
 
 // STGP. The tag is that of the address, not of the base register.
@@ -255,7 +263,7 @@ pub(crate) fn stgp(
         n,
         amount,
         granules: 1,
-        tag: tag::tag_of(address),
+        tag: Tag::of(address),
         change: DataChange::Pair(low, high),
     };
     carry_out(setup, e, history)
