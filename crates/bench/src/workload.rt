@@ -1,156 +1,179 @@
 // A workload: numbers of eight bytes, then words of four, all little-endian (docs/MANUAL.md, "The benchmark").
-ghost use Rattle.std.specs.Prelude.{◌+◌, ◌<◌, ◌≤◌, length};
+ghost use Rattle.std.specs.Prelude.{◌≤◌, ◌+◌, length, IfSome};
 
 use machine::{Cursor, Machine, Registers, Settings, Status};
+use simulator::Call;
 
 pub(crate) const MOST_WORDS: usize = 65536;
 
-pub(crate) const MOST_BACKS: u64 = 1024;
+const MOST_BACKS: usize = 1024;
 
 // As many as a list has if each word is a step.
 pub(crate) const MOST_CALLS: usize = 66560;
 
-pub(crate) const MOST_SLOTS: u64 = 1024;
+pub(crate) const MOST_SLOTS: usize = 1024;
 
-pub(crate) const MOST_GRANULES: u64 = 1024;
+pub(crate) const MOST_GRANULES: usize = 1024;
 
 // So many bytes come before the words.
-pub(crate) const HEAD: usize = 352;
+const HEAD: usize = 352;
 
-// Four bytes more than the longest workload has, so that a longer one is seen and its last word can be read as half of eight
-// bytes.
-pub(crate) const ROOM: usize = 262500;
+// A byte more than the longest workload has, so that a longer one is seen.
+pub(crate) const ROOM: usize = 262497;
 
-// The places of the numbers; that of register i is X + i.
-pub(crate) const ROUNDS: usize = 0;
+// What a round makes: a run, a step for each word, or a list with a run or a step for each word, and steps back.
+#[derive(Clone, Copy, Debug, PartialEq, Eq)]
+pub(crate) enum Kind {
+    Run,
+    Steps,
+    ListOfARun,
+    ListOfSteps,
+}
 
-pub(crate) const KIND: usize = 1;
+// A number that stands for no kind.
+#[derive(Clone, Copy, Debug, PartialEq, Eq)]
+pub(crate) struct UnknownKind;
 
-pub(crate) const BACKS: usize = 2;
+impl TryFrom<u64> for Kind {
+    type Error = UnknownKind;
 
-pub(crate) const SLOTS: usize = 3;
+    ghost try_from_gives = { λ _ _. Unit };
 
-pub(crate) const WORDS: usize = 4;
+    fn try_from(number: u64) -> Result<Kind, UnknownKind> {
+        match number {
+            0 => Ok(Kind::Run),
+            1 => Ok(Kind::Steps),
+            2 => Ok(Kind::ListOfARun),
+            3 => Ok(Kind::ListOfSteps),
+            _ => Err(UnknownKind),
+        }
+    }
+}
 
-pub(crate) const GRANULES: usize = 5;
+impl Kind {
+    fn is_list(self) -> bool {
+        matches!(self, Kind::ListOfARun | Kind::ListOfSteps)
+    }
+}
 
-const BASE: usize = 6;
+// What a workload says before its words.
+#[derive(Clone, Copy)]
+pub(crate) struct Head {
+    pub rounds: u64,
+    pub kind: Kind,
+    pub backs: usize,
+    pub slots: usize,
+    pub words: usize,
+    pub granules: usize,
+    // What each round starts from.
+    pub machine: Machine,
+    ghost backs_fit: { backs ≤ 1024 },
+    ghost slots_fit: { slots ≤ 1024 },
+    ghost words_fit: { words ≤ 65536 },
+    ghost granules_fit: { granules ≤ 1024 },
+}
 
-const EXCLUDE: usize = 7;
-
-const ACCESS: usize = 8;
-
-const NZCV: usize = 9;
-
-const RGSR: usize = 10;
-
-const SEED: usize = 11;
-
-const X: usize = 12;
-
-// The kinds of a round: a run, a step for each word, or a list with a run or a step for each word, and steps back.
-pub(crate) const RUN: u64 = 0;
-
-pub(crate) const STEPS: u64 = 1;
-
-pub(crate) const LIST_OF_A_RUN: u64 = 2;
-
-const LIST_OF_STEPS: u64 = 3;
-
-fn eight_bytes(input: &[u8], at: usize) -> u64
-    requires { at + 8 ≤ length input.now }
+fn at_most(number: u64, most: usize) -> Option<usize>
+    ensures { IfSome result (λ n. n ≤ most) }
 {
-    bits::load_word(&input[at..])
+    usize::try_from(number).ok().filter(|n| *n <= most)
 }
 
-// The number at a place.
-pub(crate) fn number(input: &[u8; ROOM], place: usize) -> u64
-    requires { place < 44 }
-{
-    eight_bytes(input, 8 * place)
+fn four_bits(number: u64) -> Option<u8> {
+    u8::try_from(number).ok().filter(|bits| *bits <= 15)
 }
 
-// Whether only lists have steps back.
-fn kind_ok(kind: u64, backs: u64) -> bool {
-    if kind < LIST_OF_A_RUN {
-        return backs == 0;
+fn flag(number: u64) -> Option<bool> {
+    match number {
+        0 => Some(false),
+        1 => Some(true),
+        _ => None,
     }
-    kind <= LIST_OF_STEPS
 }
 
-// Whether the settings and the status are within their widths.
-pub(crate) fn values_ok(input: &[u8; ROOM]) -> bool {
-    if !kind_ok(number(input, KIND), number(input, BACKS)) {
-        return false;
+fn numbers<const N: usize>(chunks: &[[u8; 8]]) -> [u64; N] {
+    let mut numbers = [0; N];
+    for (number, chunk) in numbers.iter_mut().zip(chunks) {
+        *number = u64::from_le_bytes(*chunk);
     }
-    if 0xffff < number(input, EXCLUDE) {
-        return false;
-    }
-    if 1 < number(input, ACCESS) {
-        return false;
-    }
-    if 15 < number(input, NZCV) {
-        return false;
-    }
-    if 15 < number(input, RGSR) {
-        return false;
-    }
-    number(input, SEED) <= 0xffff
+    numbers
 }
 
-fn registers(input: &[u8; ROOM]) -> [u64; 32] {
-    let mut x = [0; 32];
-    let mut i = 0;
-    while i < 32 {
-        x[i] = number(input, X + i);
-        i += 1;
+// What a head says, if it is one: each number within its bound, and steps back only in a list.
+fn read_head(bytes: &[u8; HEAD]) -> Option<Head> {
+    let (chunks, _) = bytes.as_chunks::<8>();
+    let (front, registers) = chunks.split_at(12);
+    let [
+        rounds,
+        kind,
+        backs,
+        slots,
+        words,
+        granules,
+        base,
+        exclude,
+        access,
+        nzcv,
+        rgsr,
+        seed,
+    ] = numbers::<12>(front);
+    let kind = Kind::try_from(kind).ok()?;
+    let backs = at_most(backs, MOST_BACKS)?;
+    if 0 < backs && !kind.is_list() {
+        return None;
     }
-    x
-}
-
-// The machine that each round starts from.
-pub(crate) fn start(input: &[u8; ROOM]) -> Machine {
-    let x = registers(input);
-    Machine {
-        settings: Settings {
-            base: number(input, BASE),
-            exclude: (number(input, EXCLUDE) % 0x1_0000) as u16,
-            access: number(input, ACCESS) == 1,
-        },
-        registers: Registers {
-            x: x,
-            status: Status {
-                nzcv: (number(input, NZCV) % 16) as u8,
-                rgsr: (number(input, RGSR) % 16) as u8,
-                seed: (number(input, SEED) % 0x1_0000) as u16,
+    Some(Head {
+        rounds,
+        kind,
+        backs,
+        slots: at_most(slots, MOST_SLOTS)?,
+        words: at_most(words, MOST_WORDS)?,
+        granules: at_most(granules, MOST_GRANULES)?,
+        machine: Machine {
+            settings: Settings {
+                base,
+                exclude: u16::try_from(exclude).ok()?,
+                access: flag(access)?,
             },
+            registers: Registers {
+                x: numbers(registers),
+                status: Status {
+                    nzcv: four_bits(nzcv)?,
+                    rgsr: four_bits(rgsr)?,
+                    seed: u16::try_from(seed).ok()?,
+                },
+            },
+            cursor: Cursor { next: 0, held: 0 },
         },
-        cursor: Cursor { next: 0, held: 0 },
-    }
+    })
 }
 
-// Reads the words, as many as there may be.
-pub(crate) fn unpack(input: &[u8; ROOM], words: &mut [u32; MOST_WORDS]) {
-    let mut i = 0;
-    while i < MOST_WORDS {
-        words[i] = (eight_bytes(input, HEAD + 4 * i) % 0x1_0000_0000) as u32;
-        i += 1;
+// Reads a workload, its words to the start of `words`; none if the bytes are none.
+pub(crate) fn read(input: &[u8], words: &mut [u32; MOST_WORDS]) -> Option<Head> {
+    let (head, tail) = input.split_first_chunk::<HEAD>()?;
+    let head = read_head(head)?;
+    let (chunks, rest) = tail.as_chunks::<4>();
+    if chunks.len() != head.words || !rest.is_empty() {
+        return None;
     }
+    for (word, chunk) in words.iter_mut().zip(chunks) {
+        *word = u32::from_le_bytes(*chunk);
+    }
+    Some(head)
 }
 
-// Puts the calls that take a list's words, a run or a step for each, and answers how many they are.
-pub(crate) fn put_calls(kind: u64, words: usize, calls: &mut [usize; MOST_CALLS]) -> usize
-    requires { words ≤ 65536 }
-    ensures { result ≤ 65536 }
+// Puts the calls of a list: those that take its words, a run or a step for each, and the steps back; answers how many they are.
+pub(crate) fn put_calls(head: &Head, calls: &mut [Call; MOST_CALLS]) -> usize
+    ensures { result ≤ 66560 }
 {
-    if kind == LIST_OF_A_RUN {
-        calls[0] = simulator::RUN + words;
-        return 1;
-    }
-    let mut i = 0;
-    while i < words {
-        calls[i] = simulator::STEP;
-        i += 1;
-    }
-    words
+    let taking = if head.kind == Kind::ListOfARun {
+        calls[0] = Call::Run(head.words);
+        1
+    } else {
+        calls[..head.words].fill(Call::Step);
+        head.words
+    };
+    let end = taking + head.backs;
+    calls[taking..end].fill(Call::Back);
+    end
 }

@@ -18,8 +18,7 @@ fn main(rt: HostRuntime) {
     let mut tags = [3u8, 5, 5, 9];
     let block = reach::reachable(STALE, BASE, &data, &tags);
     lines::write_reached(&to, STALE, block);
-    tags[1] = 6;
-    tags[2] = 6;
+    tags[1..3].fill(6);
     lines::write_held(&to, block);
     lines::write_reached(&to, STALE, reach::reachable(STALE, BASE, &data, &tags));
     lines::write_reached(&to, RENEWED, reach::reachable(RENEWED, BASE, &data, &tags));

@@ -1,15 +1,7 @@
 // The lines that the walkthrough writes to standard output.
-use machine::{Code, Machine};
-use simulator::PlayCode;
+use machine::{Code, Setup};
+use simulator::PlayError;
 use stdio::Output;
-
-fn wide(b: u8) -> u64 {
-    b as u64
-}
-
-fn long(n: u32) -> u64 {
-    n as u64
-}
 
 fn write(to: &Output<'_>, bytes: &[u8]) {
     stdio::write(to, bytes, b"walkthrough: cannot write standard output");
@@ -25,7 +17,7 @@ pub(crate) fn write_run(to: &Output<'_>, count: usize) {
 // The start of a step's line: its word.
 pub(crate) fn write_step(to: &Output<'_>, word: u32) {
     let mut out = *b"step 00000000";
-    text::put_hex(&mut out, 5, 8, word as u64);
+    text::put_hex(&mut out, 5, 8, u64::from(word));
     write(to, &out);
 }
 
@@ -34,46 +26,52 @@ pub(crate) fn write_back(to: &Output<'_>) {
     write(to, b"back");
 }
 
+fn code_number(code: Code) -> u64 {
+    u64::from(u32::from(code))
+}
+
 // The rest of a call's line: its code, and X0 and the tag bytes after it.
-pub(crate) fn write_after(to: &Output<'_>, code: Code, machine: Machine, tags: &[u8; 4]) {
+pub(crate) fn write_after(to: &Output<'_>, code: Code, setup: &Setup<'_>) {
     let mut out = *b": code 0, x0 = 0000000000000000, tags 00 00 00 00\n";
-    let x = machine.registers.x;
-    text::put_hex(&mut out, 7, 1, code.number() as u64);
-    text::put_hex(&mut out, 15, 16, x[0]);
-    text::put_hex(&mut out, 38, 2, wide(tags[0]));
-    text::put_hex(&mut out, 41, 2, wide(tags[1]));
-    text::put_hex(&mut out, 44, 2, wide(tags[2]));
-    text::put_hex(&mut out, 47, 2, wide(tags[3]));
+    text::put_hex(&mut out, 7, 1, code_number(code));
+    text::put_hex(&mut out, 15, 16, setup.machine.registers.x[0]);
+    for (i, tag) in setup.tags.iter().take(4).enumerate() {
+        text::put_hex(&mut out, 38 + 3 * i, 2, u64::from(*tag));
+    }
     write(to, &out);
 }
 
+// The same after a step or a step back.
+pub(crate) fn write_answer(to: &Output<'_>, answer: Result<(), Code>, setup: &Setup<'_>) {
+    write_after(to, answer.err().unwrap_or(Code::Done), setup);
+}
+
 // Where X0 left its block, and the tag byte there.
-pub(crate) fn write_place(to: &Output<'_>, machine: Machine, tag: u8) {
+pub(crate) fn write_place(to: &Output<'_>, setup: &Setup<'_>) {
     let mut out = *b"left its block at x0 = 0000000000000000, where the tag byte is 00\n";
-    let x = machine.registers.x;
-    text::put_hex(&mut out, 23, 16, x[0]);
-    text::put_hex(&mut out, 63, 2, wide(tag));
+    text::put_hex(&mut out, 23, 16, setup.machine.registers.x[0]);
+    if let Some(tag) = setup.tags.get(2) {
+        text::put_hex(&mut out, 63, 2, u64::from(*tag));
+    }
     write(to, &out);
 }
 
 // A list of calls: its code, how many calls were played, the code of each, and X0 after them.
 pub(crate) fn write_list(
     to: &Output<'_>,
-    code: PlayCode,
-    count: usize,
-    codes: &[u32; 8],
-    machine: Machine,
+    played: Result<usize, PlayError>,
+    codes: &[Code; 8],
+    setup: &Setup<'_>,
 ) {
     let mut out =
         *b"list: code 0, 0 calls played with codes 0 0 0 0 0 0 0 0, x0 = 0000000000000000\n";
-    let x = machine.registers.x;
-    text::put_hex(&mut out, 11, 1, long(code.number()));
-    text::put_hex(&mut out, 14, 1, count as u64);
-    text::put_hex(&mut out, 62, 16, x[0]);
-    let mut i = 0;
-    while i < 8 {
-        text::put_hex(&mut out, 40 + 2 * i, 1, long(codes[i]));
-        i += 1;
+    match played {
+        Ok(count) => text::put_hex(&mut out, 14, 1, count as u64),
+        Err(error) => text::put_hex(&mut out, 11, 1, u64::from(u32::from(error))),
     }
+    for (i, code) in codes.iter().enumerate() {
+        text::put_hex(&mut out, 40 + 2 * i, 1, code_number(*code));
+    }
+    text::put_hex(&mut out, 62, 16, setup.machine.registers.x[0]);
     write(to, &out);
 }
