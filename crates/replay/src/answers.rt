@@ -141,8 +141,8 @@ pub(crate) fn put_answer(writer: &mut Writer<'_>, player: &Player<'_>, question:
             offset,
             mask,
         } => {
-            let tag = tag::choose(start % 16, offset, mask);
-            writer.put(AnswerKind::Chosen, &[u64::from(tag)]);
+            let chosen = tag::choose(start, offset, mask);
+            writer.put(AnswerKind::Chosen, &[u64::from(chosen.value)]);
         },
         Question::Draw(seed) => {
             let drawn = tag::draw(seed);

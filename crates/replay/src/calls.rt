@@ -1,6 +1,6 @@
 // Collects calls for a list, as `simulator::play` takes them: beside the words that they take in order.
 use super::lines;
-use super::memory::Memory;
+use super::memories::Memory;
 use simulator::Call;
 
 // The most calls that a list has, and words that they take.

@@ -8,6 +8,7 @@ pub(crate) struct Shape {
     pub(crate) widths: &'static [usize],
 }
 
+// A kind of line, by which a line is found or put.
 pub(crate) trait Kind {
     fn shape(self) -> Shape;
 }

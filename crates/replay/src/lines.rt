@@ -1,5 +1,6 @@
 // What the lines of a script say.
 use isa::Form;
+use tag::Tag;
 
 // The most tag bytes, data bytes and history words that a script can give the machine, and words that it can list.
 pub(crate) const MOST_TAGS: usize = 0x1_0010;
@@ -22,7 +23,7 @@ pub(crate) enum Line {
     Ask(Question),
 }
 
-// What is set.
+// What is set. Where two numbers stand the first says which: a register or an index.
 #[derive(Clone, Copy)]
 pub(crate) enum Setting {
     Fresh(u64),
@@ -65,7 +66,7 @@ pub(crate) enum Question {
     Show,
     Decode(u32),
     Encode(Form),
-    Choose { start: u8, offset: u8, mask: u16 },
+    Choose { start: Tag, offset: u8, mask: u16 },
     Draw(u16),
     Reach(u64),
 }

@@ -13,7 +13,7 @@ mod answers;
 mod calls;
 mod kinds;
 mod lines;
-mod memory;
+mod memories;
 mod player;
 mod playing;
 mod reader;

@@ -1,6 +1,6 @@
 // The player of a script: the machine and its memories.
 use super::lines::{MOST_DATA, MOST_HISTORY, MOST_LISTED, MOST_TAGS, Setting};
-use super::memory::Memory;
+use super::memories::Memory;
 use machine::Machine;
 
 #[derive(Drop)]

@@ -4,6 +4,7 @@ use super::lines::{
     Call, Lent, Line, MOST_DATA, MOST_HISTORY, MOST_LISTED, MOST_TAGS, Question, Setting,
 };
 use isa::{Form, Mode};
+use tag::Tag;
 
 // The number of so many digits behind a separator, and the text behind it. No width in the table is above 16; without the test that
 // would have to be proved.
@@ -85,7 +86,9 @@ fn lent(codes: u64, counts: u64, words: u64) -> Option<Lent> {
 
 fn choice(start: u64, offset: u64, mask: u64) -> Option<Question> {
     Some(Question::Choose {
-        start: u8::try_from(start).ok()?,
+        start: Tag {
+            value: u8::try_from(start % 16).ok()?,
+        },
         offset: u8::try_from(offset).ok()?,
         mask: u16::try_from(mask).ok()?,
     })
