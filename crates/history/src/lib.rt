@@ -3,6 +3,7 @@
 #![tactic(auto)]
 
 ghost use Rattle.std.specs.Prelude.{false, ◌≡◌, ◌+◌, ◌*◌, ◌%◌, ◌<◌, ◌≤◌, min, length};
+ghost use Rattle.std.proofs.lemmas.List.Edits.{sets};
 ghost use Rattle.machine.specs.Loans.{SameLoans};
 ghost use Rattle.machine.specs.Setup.{slots_of};
 ghost use Rattle.machine.specs.State.{with_memory};
@@ -80,8 +81,22 @@ pub fn retreat(cursor: Cursor, slots: usize) -> Cursor
     }
 }
 
+fn write(part: &mut [u64], words: [u64; 8])
+    requires { 8 ≤ length part.old }
+    ensures { part.new ≡ sets part.old 0 words }
+{
+    let [word, value, first, a, b, c, d, last] = words;
+    part[0] = word;
+    part[1] = value;
+    part[2] = first;
+    part[3] = a;
+    part[4] = b;
+    part[5] = c;
+    part[6] = d;
+    part[7] = last;
+}
+
 // Writes a record into the slot at the cursor, if there is one, and moves the cursor on.
-#[tactic(auto, using(crate::proofs::Slots::slot_written), unfolding(crate::specs::Ring::pushed))]
 pub fn push(history: &mut [u64], cursor: &mut Cursor, part: [u64; 8])
     requires { CursorPlaced (slots_of (length history.old)) cursor.old }
     ensures { history_of history.new cursor.new ≡ pushed part (history_of history.old cursor.old) }
@@ -91,7 +106,7 @@ pub fn push(history: &mut [u64], cursor: &mut Cursor, part: [u64; 8])
         return;
     }
     let at = 8 * cursor.next;
-    history[at..at + 8].copy_from_slice(&part);
+    write(&mut history[at..], part);
     *cursor = advance(*cursor, slots);
 }
 
