@@ -52,6 +52,7 @@ fn loaded(setup: &Setup<'_>, w: u64) -> Result<u64, Code>
 }
 
 // LDG.
+#[inline(always)]
 fn ldg(setup: &mut Setup<'_>, w: u64, history: &mut [u64]) -> Result<(), Code>
     requires { well_formed (standing setup.old history.old) ≡ true }
     ensures loans { SameLoans setup.old setup.new }
@@ -111,7 +112,7 @@ fn entry_for(setup: &Setup<'_>, register: u64, granules: usize, first: usize, sa
     }
 }
 
-// Records a register and granules, with their data or without. Inlined, as `carry_out`.
+// Records a register and granules, with their data or without.
 #[inline(always)]
 fn record(
     setup: &mut Setup<'_>,
@@ -172,7 +173,7 @@ fn writes(change: DataChange) -> bool
     }
 }
 
-// Judges a store, records it and carries it out. Inlined, so that it is compiled for one granule and for two.
+// Judges a store, records it and carries it out. It is compiled for one granule and for two.
 #[inline(always)]
 fn carry_out(setup: &mut Setup<'_>, e: Store, history: &mut [u64]) -> Result<(), Code>
     requires register_bound { e.n < 32 }
@@ -216,6 +217,7 @@ fn zeroed_if(zeroes: bool) -> DataChange
 }
 
 // STG, STZG, ST2G, STZ2G: two granules if bit 23 is one, zeroed if bit 22 is.
+#[inline(always)]
 fn tag_store(setup: &mut Setup<'_>, mode: Mode, w: u64, history: &mut [u64]) -> Result<(), Code>
     requires { well_formed (standing setup.old history.old) ≡ true }
     ensures loans { SameLoans setup.old setup.new }
@@ -239,6 +241,7 @@ fn tag_store(setup: &mut Setup<'_>, mode: Mode, w: u64, history: &mut [u64]) -> 
 }
 
 // STGP. The tag is that of the address, not of the base register.
+#[inline(always)]
 pub(crate) fn stgp(
     setup: &mut Setup<'_>,
     mode: Mode,
@@ -270,6 +273,7 @@ pub(crate) fn stgp(
 }
 
 // LDG and the tag stores, whose bits 31:24 are known: bit 21 is one, and bits 11:10 are the mode or, for LDG, zero.
+#[inline(always)]
 pub(crate) fn memory_tags(setup: &mut Setup<'_>, w: u64, history: &mut [u64]) -> Result<(), Code>
     requires w_bound { w < 2 ^ 32 }
     requires w_value { bits_at w 24 8 ≡ 0xD9 }
