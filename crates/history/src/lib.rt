@@ -81,6 +81,7 @@ pub fn retreat(cursor: Cursor, slots: usize) -> Cursor
     }
 }
 
+// Stores a record's words one by one: an array that is copied is laid on the stack first, which each step would pay.
 fn write(part: &mut [u64], words: [u64; 8])
     requires { 8 ≤ length part.old }
     ensures { part.new ≡ sets part.old 0 words }
