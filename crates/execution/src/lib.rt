@@ -2,9 +2,8 @@
 // taken, so that a run is one loop: with a call for each word it takes half as long again.
 #![tactic(auto)]
 
-ghost use Rattle.std.specs.Prelude.{◌≡◌, ◌≢◌, ◌<◌, ◌/◌, ◌^◌, ◌⊎◌, true, IfErr};
+ghost use Rattle.std.specs.Prelude.{◌≡◌, ◌≢◌, ◌<◌, ◌^◌, true, IfErr};
 ghost use Rattle.isa.specs.Decoding.{decode_of};
-ghost use Rattle.isa.specs.Words.{add_sub_bits};
 ghost use Rattle.machine.specs.declared.Code.TheVariants.{Done};
 ghost use Rattle.machine.specs.Codes.{code_in};
 ghost use Rattle.machine.specs.Loans.{SameLoans};
@@ -13,23 +12,11 @@ ghost use Rattle.execution.specs.Inside.Taking.{Took, decoded_taken};
 ghost use Rattle.execution.specs.Simulation.{standing, well_formed};
 ghost use Rattle.execution.specs.Steps.{step_of};
 
-use isa::{AddSubOp, decoder};
+use isa::{AddSubOp, Mode};
 use machine::{Code, Setup};
 
 mod memory_words;
 mod register_words;
-
-// ADDG or SUBG, by bits 31:22.
-fn add_sub_op(top: u64) -> AddSubOp
-    requires { (top ≡ 0x246) ⊎ (top ≡ 0x346) }
-    ensures { top ≡ add_sub_bits result / 2 ^ 22 }
-{
-    if top == 0x246 {
-        AddSubOp::Addg
-    } else {
-        AddSubOp::Subg
-    }
-}
 
 // Takes a word by its family, which bits 31:22 tell.
 #[inline(always)]
@@ -43,15 +30,14 @@ fn take_by_family(setup: &mut Setup<'_>, w: u64, history: &mut [u64]) -> Result<
     if bits::field(w, 24, 8) == 0xD9 {
         return memory_words::memory_tags(setup, w, history);
     }
-    let top = bits::field(w, 22, 10);
-    match top {
-        0x246 | 0x346 => register_words::add_sub(setup, add_sub_op(top), w, history),
+    match bits::field(w, 22, 10) {
+        0x246 => register_words::add_sub(setup, AddSubOp::Addg, w, history),
+        0x346 => register_words::add_sub(setup, AddSubOp::Subg, w, history),
         0x26B => register_words::two_source(setup, w, history),
         0x2EB => register_words::subps(setup, w, history),
-        0x1A2 | 0x1A4 | 0x1A6 => {
-            let mode = decoder::mode_of(bits::field(w, 23, 2));
-            memory_words::stgp(setup, mode, w, history)
-        },
+        0x1A2 => memory_words::stgp(setup, Mode::Post, w, history),
+        0x1A4 => memory_words::stgp(setup, Mode::Offset, w, history),
+        0x1A6 => memory_words::stgp(setup, Mode::Pre, w, history),
         _ => Err(Code::Undefined),
     }
 }
