@@ -4,6 +4,7 @@ use mathlib.Core.Path.{◌≡◌, refl, sym, ap, ◌∙◌}
 use mathlib.Core.Bool.{Bool, true, false, cond, ◌&&◌, ◌||◌}
 use mathlib.Core.List.{List, [], ◌∷◌}
 use native.Mathlib.Omega.{arith}
+use Rattle.std.proofs.lemmas.Bool.Decides.{nat_tests}
 use lib.Dec.{eqb, ltb}
 use lib.ListN.{length, get_or}
 use borrow.Author.Tests.{eqb-true, eqb-false, le-ltb, ne_eqb}
@@ -91,9 +92,7 @@ by_elements (a ∷ l) = ap (λ (t : List ℕ). a ∷ t) (by_elements l)
 
 -- a bit, from whether it is set
 one_bit : (n : ℕ) → n < 2 → cond (eqb n 1) 1 0 ≡ n
-one_bit zero h = refl
-one_bit (suc zero) h = refl
-one_bit (suc (suc n)) h = absurd (omega arith)
+one_bit n h = grind (arith, nat_tests)
 
 -- eight words without gaps are those of their entry
 words_back : (r : List ℕ) → EightWords r → gap_not_zero r ≡ false → r ≡ words_of (entry_in r)

@@ -2,7 +2,5 @@
 pub mod Exact
 pub mod Packing
 pub mod Recorded
-pub mod Restored
-pub mod Room
 pub mod Rules
 pub mod Slots

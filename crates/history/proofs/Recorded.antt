@@ -5,11 +5,12 @@ use mathlib.Core.Bool.{Bool, true, false, cond, ◌&&◌, ◌||◌, false≢true
 use mathlib.Core.List.{List, []}
 use mathlib.Core.Path.{◌≡◌, refl, ap, sym, ◌∙◌}
 use native.Mathlib.Omega.{arith}
+use Rattle.std.proofs.lemmas.Bool.Decides.{nat_tests}
 use Rattle.std.proofs.Common.{Option, Some, None}
-use lib.Dec.{eqb, ltb}
+use lib.Dec.{ltb}
 use lib.ListN.{length, drop, get_or, set, length-replicate}
 use lib.Seq.{sets, length-sets, set-set, set-get_or}
-use borrow.Author.Tests.{eqb-true, le-ltb}
+use borrow.Author.Tests.{le-ltb}
 use Rattle.bits.specs.LittleEndian.{word_from}
 use Rattle.bits.proofs.Bounds.{cond_lt}
 use Rattle.isa.specs.declared.TwoSourceOp.TheVariants.{Subp, Subps, Irg, Gmi}
@@ -31,7 +32,7 @@ use Rattle.instructions.proofs.Outcomes.{form_outcome}
 use Rattle.instructions.proofs.Within.{form_within}
 use Rattle.history.specs.declared.Entry.{Entry}
 use Rattle.history.specs.Records.{data_at, words_of, entry_in}
-use Rattle.history.specs.BadRecords.{not_zero, value_not_zero, tags_not_zero, data_not_zero, data_of_none, malformed}
+use Rattle.history.specs.BadRecords.{value_not_zero, tags_not_zero, data_not_zero, data_of_none, malformed}
 use Rattle.history.specs.Recording.{old_word, entry_for, entry_of, record_of, restored}
 use Rattle.history.specs.Inside.Slots.{entry_on}
 use Rattle.history.proofs.Packing.{Fits, entry_back, gaps_zero}
@@ -66,11 +67,7 @@ unused_zero r (suc (suc (suc n))) i saves s few none some beyond = absurd (omega
 -- with no register its value is zero
 value_zero : (r n i : ℕ) (saves : Bool) (s : State) → value_not_zero (entry_for r n i saves s) ≡ false
 unfolding entry_for
-value_zero r n i saves s = go (eqb r 32) refl
-  where
-    go : (t : Bool) → eqb r 32 ≡ t → (t && not_zero (x_or_sp s.registers.x r)) ≡ false
-    go true p = rw (eqb-true r 32 p)
-    go false p = refl
+value_zero r n i saves s = grind (arith, nat_tests)
 
 -- what is put back, part by part
 

@@ -50,7 +50,6 @@ impl Entry {
     }
 
     // Tested with no sum, which may be too large.
-    #[tactic(auto, using(crate::proofs::Room::test_moved))]
     fn is_beyond(&self, all: usize) -> bool
         ensures { result ≡ beyond all self.now }
     {

@@ -18,8 +18,8 @@ use machine::{Cursor, Setup, Status};
 mod bad_records;
 mod records;
 
-// What a record holds: the register with its old value, the granules with their old tags and their old data, and the old status. Register 32 is none, and
-// what is not in use is zero.
+// What a record holds: the register with its old value, the granules with their old tags and their old data, and the old status.
+// Register 32 is none, and what is not in use is zero.
 #[derive(Clone, Copy, Debug, PartialEq, Eq)]
 pub struct Entry {
     pub register: u64,
@@ -96,7 +96,7 @@ pub fn push(history: &mut [u64], cursor: &mut Cursor, part: [u64; 8])
 }
 
 // Puts back the data that a record holds, if it holds any.
-#[tactic(auto, using(crate::proofs::Restored::saved_data_back))]
+#[tactic(auto, using(memory::proofs::Lists::back_part))]
 fn restore_data(bytes: &mut [u8], entry: Entry)
     requires granules_bound { entry.granules ≤ 2 }
     requires granules_in_bounds { 16 * (entry.first + entry.granules) ≤ length bytes.old }

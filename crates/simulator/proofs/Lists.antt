@@ -99,16 +99,16 @@ module _ (list : List Asked) (words : List ℕ) (start : Simulation) (codes₀ :
 
 -- a list that is not refused has all that it needs
 
-pub not_refused : (list : List Asked) (words codes counts n : ℕ) → Ok n ≡ play_result list words codes counts → Lent list words codes counts × (n ≡ length list)
+pub not_refused : (list : List Asked) (words codes counts n : ℕ) → Ok n ≡ play_result list words codes counts → Lent list words codes counts
 unfolding play_result
 not_refused list words codes counts n = go (ltb codes (length list)) (ltb counts (length list)) (ltb words (all_taken list)) refl refl refl
   where
     go : (a b c : Bool) → ltb codes (length list) ≡ a → ltb counts (length list) ≡ b → ltb words (all_taken list) ≡ c
-        → Ok n ≡ cond {A = Result ℕ PlayError} (a || b) (Err NoRoom) (cond c (Err NoWords) (Ok (length list))) → Lent list words codes counts × (n ≡ length list)
+        → Ok n ≡ cond {A = Result ℕ PlayError} (a || b) (Err NoRoom) (cond c (Err NoWords) (Ok (length list))) → Lent list words codes counts
     go true b c p q r e = cc
     go false true c p q r e = cc
     go false false true p q r e = cc
-    go false false false p q r e = (record { words = ltb-false _ _ r; codes = ltb-false _ _ p; counts = ltb-false _ _ q }, cc)
+    go false false false p q r e = record { words = ltb-false _ _ r; codes = ltb-false _ _ p; counts = ltb-false _ _ q }
 
 module _ (start : Simulation) (list : List Asked) (words : List ℕ) (codes : List Code) (counts : List ℕ) where
   pub when_played : (n : ℕ) → Ok n ≡ play_result list (length words) (length codes) (length counts)

@@ -49,9 +49,11 @@ abbrev pub all_words : List Call → List ℕ
 all_words [] = []
 all_words (c ∷ cs) = call_words c ++ all_words cs
 
-abbrev pub play_number : PlayError → ℕ
-play_number NoRoom = 10
-play_number NoWords = 15
+-- the number of a list's code
+abbrev pub play_number : Result ℕ PlayError → ℕ
+play_number (Ok count) = 0
+play_number (Err NoRoom) = 10
+play_number (Err NoWords) = 15
 
 -- how many calls are played, all of them, or why none, by how many words, places for codes and places for counts are lent: NOROOM if
 -- there are fewer places for codes or fewer for counts than calls, NOWORDS if the calls take more words than there are; the lower if both

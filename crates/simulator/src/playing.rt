@@ -42,9 +42,10 @@ pub enum PlayError {
 }
 
 impl From<PlayError> for u32 {
+    ghost use Rattle.std.specs.Prelude.{Err};
     ghost use Rattle.simulator.specs.Playing.{play_number};
 
-    ghost from_gives = { λ error number. number ≡ play_number error };
+    ghost from_gives = { λ error number. number ≡ play_number (Err error) };
 
     fn from(error: PlayError) -> u32 {
         match error {
@@ -169,8 +170,9 @@ fn is_typed(setup: &Setup<'_>)
     are_bytes(setup.tags);
 }
 
-// Plays a list of calls, each with the machine and the buffers as the last one left them. Code and count of the call at i go to place i.
-// A list that lacks places or words is refused whole.
+// Plays a list of calls, each with the machine and the buffers as the last one left them. Code and count of the call at i go to place i,
+// each kind of answer to a slice of its own, so that another one can get its own beside them. A list that lacks places or words is refused
+// whole.
 pub fn play(
     setup: &mut Setup<'_>,
     calls: &[Call],

@@ -15,7 +15,7 @@ returns-in_err-count-clause-as_plain c =
     as_plain _ _ _ _ _ _ c.is_typed.ensures (rw (p.1, p.2) (when_refused _ _ _ _ _ _ c.in_err-count.ensures))
 
 pub play_list-requires : goal.play_list-requires
-play_list-requires c = (not_refused _ _ _ _ _ c.in_ok-count.ensures).0
+play_list-requires c = not_refused _ _ _ _ _ c.in_ok-count.ensures
 
 pub returns-clause-played : goal.returns-clause-played
 returns-clause-played c = when_played _ _ _ _ _ _ c.in_ok-count.ensures _ _ _ c.play_list.ensures.wrote
