@@ -1,8 +1,10 @@
-// One word carried out in place, on a machine with what it is lent.
+// One word carried out in place, on a machine with what it is lent. The functions that a word goes through are inlined where words are
+// taken, so that a run is one loop: with a call for each word it takes half as long again.
 #![tactic(auto)]
 
-ghost use Rattle.std.specs.Prelude.{◌≡◌, ◌≢◌, ◌<◌, ◌^◌, true, IfErr};
+ghost use Rattle.std.specs.Prelude.{◌≡◌, ◌≢◌, ◌<◌, ◌/◌, ◌^◌, ◌⊎◌, true, IfErr};
 ghost use Rattle.isa.specs.Decoding.{decode_of};
+ghost use Rattle.isa.specs.Words.{add_sub_bits};
 ghost use Rattle.machine.specs.declared.Code.TheVariants.{Done};
 ghost use Rattle.machine.specs.Codes.{code_in};
 ghost use Rattle.machine.specs.Loans.{SameLoans};
@@ -11,13 +13,26 @@ ghost use Rattle.execution.specs.Inside.Taking.{Took, decoded_taken};
 ghost use Rattle.execution.specs.Simulation.{standing, well_formed};
 ghost use Rattle.execution.specs.Steps.{step_of};
 
-use isa::{AddSubOp, Mode};
+use isa::{AddSubOp, decoder};
 use machine::{Code, Setup};
 
 mod memory_words;
 mod register_words;
 
+// ADDG or SUBG, by bits 31:22.
+fn add_sub_op(top: u64) -> AddSubOp
+    requires { (top ≡ 0x246) ⊎ (top ≡ 0x346) }
+    ensures { top ≡ add_sub_bits result / 2 ^ 22 }
+{
+    if top == 0x246 {
+        AddSubOp::Addg
+    } else {
+        AddSubOp::Subg
+    }
+}
+
 // Takes a word by its family, which bits 31:22 tell.
+#[inline(always)]
 fn take_by_family(setup: &mut Setup<'_>, w: u64, history: &mut [u64]) -> Result<(), Code>
     requires w_bound { w < 2 ^ 32 }
     requires formed { well_formed (standing setup.old history.old) ≡ true }
@@ -28,19 +43,21 @@ fn take_by_family(setup: &mut Setup<'_>, w: u64, history: &mut [u64]) -> Result<
     if bits::field(w, 24, 8) == 0xD9 {
         return memory_words::memory_tags(setup, w, history);
     }
-    match bits::field(w, 22, 10) {
-        0x246 => register_words::add_sub(setup, AddSubOp::Addg, w, history),
-        0x346 => register_words::add_sub(setup, AddSubOp::Subg, w, history),
+    let top = bits::field(w, 22, 10);
+    match top {
+        0x246 | 0x346 => register_words::add_sub(setup, add_sub_op(top), w, history),
         0x26B => register_words::two_source(setup, w, history),
         0x2EB => register_words::subps(setup, w, history),
-        0x1A2 => memory_words::stgp(setup, Mode::Post, w, history),
-        0x1A4 => memory_words::stgp(setup, Mode::Offset, w, history),
-        0x1A6 => memory_words::stgp(setup, Mode::Pre, w, history),
+        0x1A2 | 0x1A4 | 0x1A6 => {
+            let mode = decoder::mode_of(bits::field(w, 23, 2));
+            memory_words::stgp(setup, mode, w, history)
+        },
         _ => Err(Code::Undefined),
     }
 }
 
 // Takes one word, on a setup that keeps the rules. Public because `stepping` calls it.
+#[inline(always)]
 pub fn take(setup: &mut Setup<'_>, word: u32, history: &mut [u64]) -> Result<(), Code>
     requires { well_formed (standing setup.old history.old) ≡ true }
     ensures loans { SameLoans setup.old setup.new }

@@ -51,6 +51,7 @@ fn loaded(setup: &Setup<'_>, w: u64) -> Result<u64, Code>
 }
 
 // LDG.
+#[inline(always)]
 fn ldg(setup: &mut Setup<'_>, w: u64, history: &mut [u64]) -> Result<(), Code>
     requires { well_formed (standing setup.old history.old) ≡ true }
     ensures loans { SameLoans setup.old setup.new }
@@ -111,6 +112,7 @@ fn entry_for(setup: &Setup<'_>, register: u64, granules: usize, first: usize, sa
 }
 
 // Records a register and granules, with their data or without.
+#[inline(always)]
 fn record(
     setup: &mut Setup<'_>,
     register: u64,
@@ -170,7 +172,8 @@ fn writes(change: DataChange) -> bool
     }
 }
 
-// Judges a store, records it and carries it out.
+// Judges a store, records it and carries it out. It is compiled for one granule and for two.
+#[inline(always)]
 fn carry_out(setup: &mut Setup<'_>, e: Store, history: &mut [u64]) -> Result<(), Code>
     requires register_bound { e.n < 32 }
     requires amount_whole { e.amount % 16 ≡ 0 }
@@ -201,6 +204,7 @@ fn carry_out(setup: &mut Setup<'_>, e: Store, history: &mut [u64]) -> Result<(),
     Ok(())
 }
 
+// Data that is zeroed or not.
 fn zeroed_if(zeroes: bool) -> DataChange
     ensures { change_in result ≡ zeroed_if zeroes }
 {
@@ -212,6 +216,7 @@ fn zeroed_if(zeroes: bool) -> DataChange
 }
 
 // STG, STZG, ST2G, STZ2G: two granules if bit 23 is one, zeroed if bit 22 is.
+#[inline(always)]
 fn tag_store(setup: &mut Setup<'_>, mode: Mode, w: u64, history: &mut [u64]) -> Result<(), Code>
     requires { well_formed (standing setup.old history.old) ≡ true }
     ensures loans { SameLoans setup.old setup.new }
@@ -223,14 +228,19 @@ fn tag_store(setup: &mut Setup<'_>, mode: Mode, w: u64, history: &mut [u64]) -> 
         mode,
         n: bits::field(w, 5, 5),
         amount: decoder::signed(bits::field(w, 12, 9), 256),
-        granules: 1 + bits::field(w, 23, 1) as usize,
+        granules: 1,
         tag: tag::tag_of(setup.machine.registers.x_or_sp(t)),
         change: zeroed_if(bits::field(w, 22, 1) == 1),
     };
-    carry_out(setup, e, history)
+    if bits::field(w, 23, 1) == 1 {
+        carry_out(setup, Store { granules: 2, ..e }, history)
+    } else {
+        carry_out(setup, e, history)
+    }
 }
 
 // STGP. The tag is that of the address, not of the base register.
+#[inline(always)]
 pub(crate) fn stgp(
     setup: &mut Setup<'_>,
     mode: Mode,
@@ -262,6 +272,7 @@ pub(crate) fn stgp(
 }
 
 // LDG and the tag stores, whose bits 31:24 are known: bit 21 is one, and bits 11:10 are the mode or, for LDG, zero.
+#[inline(always)]
 pub(crate) fn memory_tags(setup: &mut Setup<'_>, w: u64, history: &mut [u64]) -> Result<(), Code>
     requires w_bound { w < 2 ^ 32 }
     requires w_value { bits_at w 24 8 ≡ 0xD9 }

@@ -34,6 +34,7 @@ pub(crate) fn set(setup: &mut Setup<'_>, n: u64, v: u64, history: &mut [u64])
 }
 
 // ADDG, SUBG: bits 15:14 are zero.
+#[inline(always)]
 pub(crate) fn add_sub(
     setup: &mut Setup<'_>,
     op: AddSubOp,
@@ -59,6 +60,7 @@ pub(crate) fn add_sub(
 }
 
 // IRG, with what Rn and Rm hold.
+#[inline(always)]
 fn irg(setup: &mut Setup<'_>, d: u64, rn: u64, rm: u64, history: &mut [u64])
     requires register_bound { d ≤ 32 }
     requires formed { well_formed (standing setup.old history.old) ≡ true }
@@ -76,6 +78,7 @@ fn irg(setup: &mut Setup<'_>, d: u64, rn: u64, rm: u64, history: &mut [u64])
 }
 
 // SUBP, SUBPS, IRG, GMI.
+#[inline(always)]
 fn two_registers(setup: &mut Setup<'_>, op: TwoSourceOp, w: u64, history: &mut [u64])
     requires { well_formed (standing setup.old history.old) ≡ true }
     ensures loans { SameLoans setup.old setup.new }
@@ -112,6 +115,7 @@ fn two_registers(setup: &mut Setup<'_>, op: TwoSourceOp, w: u64, history: &mut [
 }
 
 // SUBP, IRG, GMI: bit 21 is zero, and bits 15:10 tell them apart.
+#[inline(always)]
 pub(crate) fn two_source(setup: &mut Setup<'_>, w: u64, history: &mut [u64]) -> Result<(), Code>
     requires { well_formed (standing setup.old history.old) ≡ true }
     ensures loans { SameLoans setup.old setup.new }
@@ -131,6 +135,7 @@ pub(crate) fn two_source(setup: &mut Setup<'_>, w: u64, history: &mut [u64]) -> 
 }
 
 // SUBPS: bits 21 and 15:10 are zero.
+#[inline(always)]
 pub(crate) fn subps(setup: &mut Setup<'_>, w: u64, history: &mut [u64]) -> Result<(), Code>
     requires { well_formed (standing setup.old history.old) ≡ true }
     ensures loans { SameLoans setup.old setup.new }
