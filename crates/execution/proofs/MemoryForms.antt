@@ -126,7 +126,7 @@ module _ (s : Simulation) where
           first = first;
           granules = e.granules;
           tagged = s.state.settings.access;
-          tag = e.tag;
+          tag = e.tag.value;
           change = change_in e.change;
         })
         s
@@ -149,7 +149,7 @@ module _ (s : Simulation) where
         → x' ≡ written r.state.registers.x (writeback_to e.mode e.n) (onward rn e.amount)
         → status' ≡ r.state.registers.status
         → bytes' ≡ sets r.state.bytes (16 * first) (new_bytes (change_in e.change) e.granules)
-        → tags' ≡ sets r.state.tags first (new_tags e.granules s.state.settings.access e.tag)
+        → tags' ≡ sets r.state.tags first (new_tags e.granules s.state.settings.access e.tag.value)
         → record {
           state = record { settings = r.state.settings; registers = record { x = x'; status = status' }; bytes = bytes'; tags = tags' };
           history = r.history;
@@ -164,7 +164,7 @@ module _ (s : Simulation) where
               status = r.state.registers.status;
             };
             bytes = sets r.state.bytes (16 * first) (new_bytes (change_in e.change) e.granules);
-            tags = sets r.state.tags first (new_tags e.granules s.state.settings.access e.tag);
+            tags = sets r.state.tags first (new_tags e.granules s.state.settings.access e.tag.value);
           };
           history = r.history;
         } in

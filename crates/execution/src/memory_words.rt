@@ -15,6 +15,7 @@ use history::Entry;
 use instructions::{accesses, tag_load};
 use isa::{Mode, decoder};
 use machine::{Code, Setup};
+use tag::Tag;
 
 // What becomes of the data of a store's granules.
 #[derive(Clone, Copy)]
@@ -31,7 +32,7 @@ struct Store {
     n: u64,
     amount: u64,
     granules: usize,
-    tag: u8,
+    tag: Tag,
     change: DataChange,
 }
 
@@ -47,7 +48,7 @@ fn loaded(setup: &Setup<'_>, w: u64) -> Result<u64, Code>
     let rn = setup.machine.registers.x_or_sp(n);
     let i = accesses::place_load(settings, setup.tags.len(), n, rn, amount)?;
     let tag = tag_load::load(settings, setup.tags, i);
-    Ok(tag::with_tag(setup.machine.registers.x_or_zero(t), tag))
+    Ok(tag.put_in(setup.machine.registers.x_or_zero(t)))
 }
 
 // LDG.
@@ -151,14 +152,14 @@ fn change_data(bytes: &mut [u8], first: usize, granules: usize, change: DataChan
 }
 
 // Gives granules from first on a tag, or leaves theirs.
-fn tag_if(tags: &mut [u8], first: usize, granules: usize, tagged: bool, tag: u8)
+fn tag_if(tags: &mut [u8], first: usize, granules: usize, tagged: bool, tag: Tag)
     requires le_granules { 1 ≤ granules }
     requires granules_bound { granules ≤ 2 }
     requires granules_in_bounds { first + granules ≤ length tags.old }
-    ensures { tags.new ≡ sets tags.old first (new_tags granules tagged tag) }
+    ensures { tags.new ≡ sets tags.old first (new_tags granules tagged tag.value) }
 {
     if tagged {
-        memory::store_tags(tags, first, granules, tag);
+        memory::store_tags(tags, first, granules, tag.value);
     }
 }
 
@@ -229,7 +230,7 @@ fn tag_store(setup: &mut Setup<'_>, mode: Mode, w: u64, history: &mut [u64]) -> 
         n: bits::field(w, 5, 5),
         amount: decoder::signed(bits::field(w, 12, 9), 256),
         granules: 1,
-        tag: tag::tag_of(setup.machine.registers.x_or_sp(t)),
+        tag: Tag::of(setup.machine.registers.x_or_sp(t)),
         change: zeroed_if(bits::field(w, 22, 1) == 1),
     };
     if bits::field(w, 23, 1) == 1 {
@@ -265,7 +266,7 @@ pub(crate) fn stgp(
         n,
         amount,
         granules: 1,
-        tag: tag::tag_of(address),
+        tag: Tag::of(address),
         change: DataChange::Pair(low, high),
     };
     carry_out(setup, e, history)

@@ -11,6 +11,7 @@ use history::Entry;
 use instructions::{pointers, random_tag};
 use isa::{AddSubOp, TwoSourceOp};
 use machine::{Code, Setup};
+use tag::Tag;
 
 // Records a register and gives it a value; 32 is none.
 pub(crate) fn set(setup: &mut Setup<'_>, n: u64, v: u64, history: &mut [u64])
@@ -68,12 +69,13 @@ fn irg(setup: &mut Setup<'_>, d: u64, rn: u64, rm: u64, history: &mut [u64])
     ensures taken { standing setup.new history.new ≡ irg_taken d rn rm (standing setup.old history.old) }
 {
     if !setup.machine.settings.access {
-        set(setup, d, tag::with_tag(rn, 0), history);
+        set(setup, d, Tag { value: 0 }.put_in(rn), history);
         return;
     }
     let mask = random_tag::mask_of(setup.machine.settings, rm);
     let after = random_tag::choose(setup.machine.registers.status, mask);
-    set(setup, d, tag::with_tag(rn, after.rgsr), history);
+    let tag = Tag { value: after.rgsr };
+    set(setup, d, tag.put_in(rn), history);
     setup.machine.registers.status = after;
 }
 

@@ -4,6 +4,8 @@
 ghost use Rattle.std.specs.Prelude.{◌≡◌};
 ghost use Rattle.frontend.specs.FrontEnd.{choice_answer, code_answer};
 
+use tag::Tag;
+
 // The chosen tag, or 16 where an argument is out of range.
 #[tactic(auto, unfolding(crate::specs::FrontEnd::choice_answer))]
 #[unsafe(no_mangle)]
@@ -13,7 +15,8 @@ pub extern "C" fn mte_choose_tag(start: u32, offset: u32, mask: u32) -> u32
     if start > 15 || offset > 15 || mask > 65535 {
         return 16;
     }
-    u32::from(tag::choose(start as u8, offset as u8, mask as u16))
+    let start = Tag { value: start as u8 };
+    u32::from(tag::choose(start, offset as u8, mask as u16).value)
 }
 
 // The code of an instruction word: 0 for one of the forms, 2 for any other.

@@ -4,6 +4,7 @@ ghost use Rattle.instructions.specs.RegisterWords.{add_sub_result, chosen_or0, d
 
 use isa::AddSubOp;
 use machine::Settings;
+use tag::Tag;
 
 fn moved_by(op: AddSubOp, v: u64, amount: u64) -> u64
     ensures { result ≡ moved op v amount }
@@ -14,16 +15,13 @@ fn moved_by(op: AddSubOp, v: u64, amount: u64) -> u64
     }
 }
 
-#[tactic(auto, using(tag::proofs::TagChoice::chosen_lt))]
-fn choose_or_0(settings: Settings, start: u8, offset: u8) -> u8
-    requires { start < 16 }
-    ensures value { result ≡ chosen_or0 settings start offset settings.exclude }
-    ensures upper_bound { result < 16 }
+fn choose_or_0(settings: Settings, start: Tag, offset: u8) -> Tag
+    ensures { result.value ≡ chosen_or0 settings start.value offset settings.exclude }
 {
     if settings.access {
         tag::choose(start, offset, settings.exclude)
     } else {
-        0
+        Tag { value: 0 }
     }
 }
 
@@ -33,8 +31,8 @@ pub fn add_sub(settings: Settings, op: AddSubOp, operand: u64, amount: u64, offs
     ensures { result ≡ add_sub_result settings op operand amount offset }
 {
     let sum = moved_by(op, operand, amount);
-    let chosen = choose_or_0(settings, tag::tag_of(operand), offset as u8);
-    tag::with_tag(sum, chosen)
+    let chosen = choose_or_0(settings, Tag::of(operand), offset as u8);
+    chosen.put_in(sum)
 }
 
 // A pointer sign-extended from bit 55.
@@ -74,5 +72,5 @@ pub fn flags(a: u64, b: u64) -> u8
 pub fn insert(mask: u64, pointer: u64) -> u64
     ensures { result ≡ with_tag_bit mask pointer }
 {
-    bits::put(mask, u64::from(tag::tag_of(pointer)), 1, 1)
+    bits::put(mask, u64::from(Tag::of(pointer).value), 1, 1)
 }

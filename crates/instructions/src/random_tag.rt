@@ -3,6 +3,7 @@ ghost use Rattle.std.specs.Prelude.{◌≡◌, ◌<◌};
 ghost use Rattle.instructions.specs.RegisterWords.{after_draw, mask_of};
 
 use machine::{Settings, Status};
+use tag::Tag;
 
 // The exclude mask with the low 16 bits of what Rm holds.
 pub fn mask_of(settings: Settings, rm: u64) -> u16
@@ -12,15 +13,15 @@ pub fn mask_of(settings: Settings, rm: u64) -> u16
 }
 
 // The status once a tag is chosen by four random bits, from RGSR's tag on: the tag is RGSR's then.
-#[tactic(auto, using(tag::proofs::TagChoice::chosen_lt))]
 pub fn choose(status: Status, mask: u16) -> Status
     requires { status.rgsr < 16 }
     ensures value { result ≡ after_draw status mask }
     ensures upper_bound { result.rgsr < 16 }
 {
     let drawn = tag::draw(status.seed);
+    let start = Tag { value: status.rgsr };
     Status {
-        rgsr: tag::choose(status.rgsr, drawn.bits, mask),
+        rgsr: tag::choose(start, drawn.bits, mask).value,
         seed: drawn.seed,
         ..status
     }

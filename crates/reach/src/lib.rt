@@ -4,12 +4,16 @@
 ghost use Rattle.std.specs.Prelude.{◌≡◌, ◌+◌, ◌≤◌, length, drop};
 ghost use Rattle.reach.specs.ReachablePart.{in_row, reachable_of};
 
+use tag::Tag;
+
 // The first granule from `first` on that does not carry the tag, or their number.
-fn row_end(tags: &[u8], first: usize, tag: u8) -> usize
+fn row_end(tags: &[u8], first: usize, tag: Tag) -> usize
     requires { first ≤ length tags.now }
-    ensures { result ≡ first + in_row tag (drop first tags.now) }
+    ensures { result ≡ first + in_row tag.value (drop first tags.now) }
 {
-    let row = tags[first..].iter().take_while(|byte| **byte % 16 == tag);
+    let row = tags[first..]
+        .iter()
+        .take_while(|byte| **byte % 16 == tag.value);
     first + row.count()
 }
 
@@ -24,7 +28,7 @@ pub fn reachable<'a, 'b>(pointer: u64, base: u64, bytes: &'a [u8], tags: &'b [u8
         return &bytes[..0];
     };
     let at = 16 * first + (pointer % 16) as usize;
-    let end = 16 * row_end(tags, first, tag::tag_of(pointer));
+    let end = 16 * row_end(tags, first, Tag::of(pointer));
     if end <= at {
         return &bytes[..0];
     }

@@ -1,69 +1,81 @@
-// A pointer's tag, tag choice, and the random bits of IRG.
+// Tags: that of a pointer, tag choice, and the random bits of IRG.
 #![tactic(auto)]
 
 ghost use Rattle.std.specs.Prelude.{◌≡◌, ◌<◌};
 ghost use Rattle.tag.specs.PointerTags.{tag_of, with_tag};
 ghost use Rattle.tag.specs.RandomBits.{drawn};
-ghost use Rattle.tag.specs.TagChoice.{chosen, masked};
+ghost use Rattle.tag.specs.TagChoice.{chosen, masked, next};
 
-// Four random bits, and the seed after them.
+// A tag: four bits.
 #[derive(Clone, Copy, Debug, PartialEq, Eq)]
-pub struct Drawn {
-    pub bits: u8,
-    pub seed: u16,
+pub struct Tag {
+    pub value: u8,
+    pub ghost four_bits: { value < 16 },
 }
 
-// A pointer's tag.
-pub fn tag_of(v: u64) -> u8
-    ensures value { result ≡ tag_of v }
-    ensures upper_bound { result < 16 }
-{
-    bits::field(v, 56, 4) as u8
-}
+impl Tag {
+    // A pointer's tag.
+    pub fn of(pointer: u64) -> Tag
+        ensures { result.value ≡ tag_of pointer }
+    {
+        Tag {
+            value: bits::field(pointer, 56, 4) as u8,
+        }
+    }
 
-// A pointer with its tag replaced.
-// Public because the crates above call it, with a tag that they know to be below 16.
-pub fn with_tag(v: u64, tag: u8) -> u64
-    requires { tag < 16 }
-    ensures { result ≡ with_tag v tag }
-{
-    bits::put(v, 56, 4, u64::from(tag))
-}
+    // A pointer with its tag replaced by this one.
+    pub fn put_in(self, pointer: u64) -> u64
+        ensures { result ≡ with_tag pointer self.value }
+    {
+        bits::put(pointer, 56, 4, u64::from(self.value))
+    }
 
-// Whether the mask has the tag's bit.
-fn is_masked(mask: u16, tag: u8) -> bool
-    requires { tag < 16 }
-    ensures { result ≡ masked mask tag }
-{
-    bits::field(u64::from(mask), u64::from(tag), 1) == 1
+    // The tag after it, mod 16.
+    fn next(self) -> Tag
+        ensures { result.value ≡ next self.value }
+    {
+        Tag {
+            value: (self.value + 1) % 16,
+        }
+    }
+
+    // Whether the mask has the tag's bit.
+    fn is_masked(self, mask: u16) -> bool
+        ensures { result ≡ masked mask self.value }
+    {
+        bits::field(u64::from(mask), u64::from(self.value), 1) == 1
+    }
 }
 
 // The chosen tag. A turn of the outer loop moves on by one, unless the offset is 0; the inner loop goes on past masked tags.
-// Public because the crates above call it, with a start tag that they know to be below 16.
-pub fn choose(start: u8, offset: u8, mask: u16) -> u8
-    requires { start < 16 }
-    ensures { result ≡ chosen start offset mask }
+pub fn choose(start: Tag, offset: u8, mask: u16) -> Tag
+    ensures { result.value ≡ chosen start.value offset mask }
 {
     let mut tag = start;
     let mut left = offset;
     let all_masked = mask == 0xffff;
     'walk: loop {
         if 0 < left {
-            tag = (tag + 1) % 16;
+            tag = tag.next();
             left -= 1;
         }
-        while is_masked(mask, tag) {
+        while tag.is_masked(mask) {
             if all_masked {
-                tag = 0;
-                break 'walk;
+                break 'walk Tag { value: 0 };
             }
-            tag = (tag + 1) % 16;
+            tag = tag.next();
         }
         if left == 0 {
-            break;
+            break tag;
         }
     }
-    tag
+}
+
+// Four random bits, and the seed after them.
+#[derive(Clone, Copy, Debug, PartialEq, Eq)]
+pub struct Drawn {
+    pub bits: u8,
+    pub seed: u16,
 }
 
 // Draws four random bits, lowest first, all at once: none of them has come down yet to the seed bits that are added.

@@ -90,7 +90,7 @@ store_taken e s =
     let rn = x_or_sp s.state.registers.x e.n in
     when_done
     (access_code s.state.settings.base (length s.state.tags) (access e.n rn (address_of e.mode rn e.amount) 16 e.granules true))
-    (effect_taken (store_effect e.mode e.n e.amount e.granules e.tag (change_in e.change) s.state) s)
+    (effect_taken (store_effect e.mode e.n e.amount e.granules e.tag.value (change_in e.change) s.state) s)
 
 -- the register r and n granules from i on, with their data or not, recorded
 abbrev pub recorded : ℕ → ℕ → ℕ → Bool → Simulation → Simulation

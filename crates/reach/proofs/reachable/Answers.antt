@@ -47,7 +47,7 @@ pub overflow_mul-end : goal.overflow_mul-end
 overflow_mul-end c =
     let a = c.args in
     let h = found a.pointer a.base a.bytes.now a.tags.now c.in-Ok.first (search rules) (search rules) in
-    let row = rw c.tag_of.ensures.value at c.row_end-end.ensures in
+    let row = rw c.of.ensures at c.row_end-end.ensures in
     let e = end_within a.pointer a.base a.bytes.now a.tags.now c.in-Ok.first c.row_end-end.result h row in
     let part = counted_part a.pointer a.base a.bytes.now a.tags.now c.in-Ok.first c.row_end-end.result h row in
     omega arith
@@ -56,7 +56,7 @@ pub slice_bounds-result-end-2 : goal.slice_bounds-result-end-2
 slice_bounds-result-end-2 c =
     let a = c.args in
     let h = found a.pointer a.base a.bytes.now a.tags.now c.in-Ok.first (search rules) (search rules) in
-    let row = rw c.tag_of.ensures.value at c.row_end-end.ensures in
+    let row = rw c.of.ensures at c.row_end-end.ensures in
     let e = end_within a.pointer a.base a.bytes.now a.tags.now c.in-Ok.first c.row_end-end.result h row in
     let part = counted_part a.pointer a.base a.bytes.now a.tags.now c.in-Ok.first c.row_end-end.result h row in
     omega arith
@@ -65,7 +65,7 @@ pub returns-then-end-at : goal.returns-then-end-at
 returns-then-end-at c =
     let a = c.args in
     let h = found a.pointer a.base a.bytes.now a.tags.now c.in-Ok.first (search rules) (search rules) in
-    let row = rw c.tag_of.ensures.value at c.row_end-end.ensures in
+    let row = rw c.of.ensures at c.row_end-end.ensures in
     let e = end_within a.pointer a.base a.bytes.now a.tags.now c.in-Ok.first c.row_end-end.result h row in
     let part = counted_part a.pointer a.base a.bytes.now a.tags.now c.in-Ok.first c.row_end-end.result h row in
     let none : 16 * c.row_end-end.result - (16 * c.in-Ok.first + a.pointer % 16) ≡ 0 = omega arith in
@@ -75,7 +75,7 @@ pub returns : goal.returns
 returns c =
     let a = c.args in
     let h = found a.pointer a.base a.bytes.now a.tags.now c.in-Ok.first (search rules) (search rules) in
-    let row = rw c.tag_of.ensures.value at c.row_end-end.ensures in
+    let row = rw c.of.ensures at c.row_end-end.ensures in
     let e = end_within a.pointer a.base a.bytes.now a.tags.now c.in-Ok.first c.row_end-end.result h row in
     let part = counted_part a.pointer a.base a.bytes.now a.tags.now c.in-Ok.first c.row_end-end.result h row in
     part

@@ -12,7 +12,7 @@ unfolding in_row
 returns c =
     let a = c.args in
     let row = c.take_while-row in
-    let carries = λ (byte : ℕ). eqb (byte % 16) a.tag in
+    let carries = λ (byte : ℕ). eqb (byte % 16) a.tag.value in
     let from = drop a.first a.tags.now in
     let all : take (length a.tags.now - a.first) from ≡ from = take_all _ from (rw length-drop (omega arith)) in
     let counted = count_from_yields_List row.result c.count.result c.count.ensures.ran

@@ -17,12 +17,12 @@ returns-clause-taken c =
       n = c.field-n.result;
       amount = c.signed-amount.result;
       granules = 1;
-      tag = c.tag_of.result;
+      tag = c.of.result;
       change = Pair c.x_or_zero-low.result c.x_or_zero-high.result;
     } in
     let s = standing a.setup.now a.history.now in
     let form : store_taken e s ≡ decoded_taken (Some (stgp_at a.mode a.w)) s = rw (
-      c.tag_of.ensures.value,
+      c.of.ensures,
       c.address_of-address.ensures,
       c.x_or_sp.ensures,
       c.x_or_zero-low.ensures,

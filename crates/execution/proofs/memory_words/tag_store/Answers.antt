@@ -13,7 +13,7 @@ use Rattle.execution.proofs.memory_words.tag_store.Goals as goal
 
 -- a store is the word's form, where its parts are those of the word
 parts : (w : ℕ) (e : Store) (s : Simulation) → e.n ≡ bits_at w 5 5 → e.amount ≡ signed_amount 256 (bits_at w 12 9) → e.granules ≡ 1 + bits_at w 23 1
-    → e.tag ≡ tag_of (x_or_sp s.state.registers.x (bits_at w 0 5)) → change_in e.change ≡ zeroed_if (eqb (bits_at w 22 1) 1)
+    → e.tag.value ≡ tag_of (x_or_sp s.state.registers.x (bits_at w 0 5)) → change_in e.change ≡ zeroed_if (eqb (bits_at w 22 1) 1)
     → store_taken e s ≡ decoded_taken (Some (tag_store_at (op_in w) e.mode w)) s
 unfolding decoded_taken form_taken
 parts w e s n a g t d = rw (op_granules w, op_zeroing w, n, a, g, t, d)
@@ -26,12 +26,12 @@ returns-then-field-eq1-clause-taken c =
       n = c.field.result;
       amount = c.signed.result;
       granules = 2;
-      tag = c.tag_of.result;
+      tag = c.of.result;
       change = c.zeroed_if.result;
     } in
     took_as (decoded_taken (Some (tag_store_at (op_in w) e.mode w))) c.carry_out.result
     (parts w e (standing c.args.setup.now c.args.history.now) c.field.ensures (rw c.field-2.ensures at c.signed.ensures) (omega arith)
-    (rw (c.x_or_sp.ensures, c.field-t.ensures) at c.tag_of.ensures.value) (rw c.field-3.ensures at c.zeroed_if.ensures)) c.carry_out.ensures.taken
+    (rw (c.x_or_sp.ensures, c.field-t.ensures) at c.of.ensures) (rw c.field-3.ensures at c.zeroed_if.ensures)) c.carry_out.ensures.taken
 
 pub returns-else-field-eq1-clause-taken : goal.returns-else-field-eq1-clause-taken
 returns-else-field-eq1-clause-taken c =
@@ -41,10 +41,10 @@ returns-else-field-eq1-clause-taken c =
       n = c.field.result;
       amount = c.signed.result;
       granules = 1;
-      tag = c.tag_of.result;
+      tag = c.of.result;
       change = c.zeroed_if.result;
     } in
     took_as (decoded_taken (Some (tag_store_at (op_in w) e.mode w))) c.carry_out-else-field-eq1.result
     (parts w e (standing c.args.setup.now c.args.history.now) c.field.ensures (rw c.field-2.ensures at c.signed.ensures) (omega arith)
-    (rw (c.x_or_sp.ensures, c.field-t.ensures) at c.tag_of.ensures.value) (rw c.field-3.ensures at c.zeroed_if.ensures))
+    (rw (c.x_or_sp.ensures, c.field-t.ensures) at c.of.ensures) (rw c.field-3.ensures at c.zeroed_if.ensures))
     c.carry_out-else-field-eq1.ensures.taken
