@@ -1,5 +1,5 @@
 // A workload: numbers of eight bytes, then words of four, all little-endian (docs/MANUAL.md, "The benchmark").
-ghost use Rattle.std.specs.Prelude.{◌≤◌, ◌+◌, length, IfSome};
+ghost use Rattle.std.specs.Prelude.{◌≤◌, ◌<◌, ◌↔◌, IsOk, IfSome};
 
 use machine::{Cursor, Machine, Registers, Settings, Status};
 use simulator::Call;
@@ -37,7 +37,7 @@ pub(crate) struct UnknownKind;
 impl TryFrom<u64> for Kind {
     type Error = UnknownKind;
 
-    ghost try_from_gives = { λ _ _. Unit };
+    ghost try_from_gives = { λ number kind. IsOk kind ↔ (number < 4) };
 
     fn try_from(number: u64) -> Result<Kind, UnknownKind> {
         match number {
