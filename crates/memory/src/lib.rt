@@ -15,12 +15,12 @@ pub enum LocateError {
     Outside,
 }
 
-impl LocateError {
-    // The code 5, OUTSIDE.
-    pub fn number(self) -> u32
-        ensures { result ≡ granule_code (Err self) }
-    {
-        match self {
+// The code 5, OUTSIDE.
+impl From<LocateError> for u32 {
+    ghost from_gives = { λ error number. number ≡ granule_code (Err error) };
+
+    fn from(error: LocateError) -> u32 {
+        match error {
             LocateError::Outside => 5,
         }
     }
