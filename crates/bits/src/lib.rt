@@ -31,20 +31,7 @@ pub fn store_word(part: &mut [u8], v: u64)
     requires { 8 ≤ length part.old }
     ensures { part.new ≡ sets part.old 0 (bytes_of v) }
 {
-    part[0] = (v % 256) as u8;
-    part[1] = (v / 0x100 % 256) as u8;
-    part[2] = (v / 0x1_0000 % 256) as u8;
-    part[3] = (v / 0x100_0000 % 256) as u8;
-    part[4] = (v / 0x1_0000_0000 % 256) as u8;
-    part[5] = (v / 0x100_0000_0000 % 256) as u8;
-    part[6] = (v / 0x1_0000_0000_0000 % 256) as u8;
-    part[7] = (v / 0x100_0000_0000_0000 % 256) as u8;
-}
-
-fn widen(x: u8) -> u64
-    ensures { (result ≡ x) × (result < 256) }
-{
-    x as u64
+    part[..8].copy_from_slice(&v.to_le_bytes());
 }
 
 // The word of the first eight bytes, little-endian.
@@ -52,13 +39,7 @@ pub fn load_word(part: &[u8]) -> u64
     requires { 8 ≤ length part.now }
     ensures { result ≡ word_from part.now }
 {
-    let a = widen(part[0]);
-    let b = widen(part[1]);
-    let c = widen(part[2]);
-    let d = widen(part[3]);
-    let e = widen(part[4]);
-    let f = widen(part[5]);
-    let g = widen(part[6]);
-    let h = widen(part[7]);
-    a + 256 * (b + 256 * (c + 256 * (d + 256 * (e + 256 * (f + 256 * (g + 256 * h))))))
+    u64::from_le_bytes([
+        part[0], part[1], part[2], part[3], part[4], part[5], part[6], part[7],
+    ])
 }

@@ -1,13 +1,10 @@
 -- The effect of a form leaves the state that its operation gives, so a word leaves the state as it is or with its effect. Assumes
 -- nothing.
-use Rattle.std.proofs.Common.{◌≡◌, ℕ, ◌%◌, Bool, true, false, cond, length, sym, refl, ap, ◌∙◌, subst}
+use Rattle.std.proofs.Common.{◌≡◌, ℕ, ◌%◌, Bool, true, false, cond, length, sym, refl, ap, ◌∙◌, subst, Option, Some, None}
 use Rattle.isa.specs.declared.Mode.{Mode}
 use Rattle.isa.specs.declared.TwoSourceOp.TheVariants.{Subp, Subps, Irg, Gmi}
 use Rattle.isa.specs.declared.Form.{Form}
 use Rattle.isa.specs.declared.Form.TheVariants.{AddSub, TwoSource, Ldg, TagStore, Stgp}
-use Rattle.isa.specs.declared.Decoded.{Decoded}
-use Rattle.isa.specs.declared.Decoded.TheVariants.{Is}
-use Rattle.isa.specs.declared.Decoded.TheVariants.{Undefined as NoForm}
 use Rattle.isa.specs.Decoding.{decode_of}
 use Rattle.memory.specs.Locations.{all_inside, index_of, onward}
 use Rattle.memory.proofs.Sizes.{Sized}
@@ -15,7 +12,7 @@ use Rattle.machine.specs.State.{State}
 use Rattle.machine.specs.Setup.{sound}
 use Rattle.machine.specs.Codes.{lowest, is_done}
 use Rattle.machine.specs.Registers.{x_or_sp, x_or_zero}
-use Rattle.machine.proofs.Setup.{state_sized}
+use Rattle.machine.proofs.Rules.{state_sized}
 use Rattle.instructions.specs.Accesses.{access, access_of, address_of, granules_named, writeback}
 use Rattle.instructions.specs.WordOutcomes.{code_of, carried_out, operation, word_outcome}
 use Rattle.instructions.specs.Inside.Effects.{Change, pair, zeroing, applied, store_effect, form_effect}
@@ -54,15 +51,15 @@ module _ (s : State) where
 
 -- a word leaves the state as it is, or with the effect of its form
 pub word_either : (P : State → Type 0) (w : ℕ) (s : State) → sound s ≡ true → P s
-    → ((f : Form) → decode_of w ≡ Is f → Accepted s f → P (applied (form_effect f s) s)) → P (word_outcome true w s).state
+    → ((f : Form) → decode_of w ≡ Some f → Accepted s f → P (applied (form_effect f s) s)) → P (word_outcome true w s).state
 unfolding word_outcome lowest
 word_either P w s h same after = go (decode_of w) refl
   where
-    form : (f : Form) → decode_of w ≡ Is f → (t : Bool) → is_done (access_code s.settings.base (length s.tags) (access_of f s)) ≡ t
+    form : (f : Form) → decode_of w ≡ Some f → (t : Bool) → is_done (access_code s.settings.base (length s.tags) (access_of f s)) ≡ t
         → P (cond t (operation f s) s)
     form f e true k = subst P (form_outcome s f h k) (after f e k)
     form f e false k = same
 
-    go : (d : Decoded) → decode_of w ≡ d → P (cond (is_done (code_of true d s)) (carried_out d s) s)
-    go (Is f) e = form f e (is_done (access_code s.settings.base (length s.tags) (access_of f s))) refl
-    go NoForm e = same
+    go : (d : Option Form) → decode_of w ≡ d → P (cond (is_done (code_of true d s)) (carried_out d s) s)
+    go (Some f) e = form f e (is_done (access_code s.settings.base (length s.tags) (access_of f s))) refl
+    go None e = same

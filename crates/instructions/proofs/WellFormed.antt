@@ -5,7 +5,7 @@ use Rattle.machine.specs.declared.Status.{Status}
 use Rattle.machine.specs.State.{State}
 use Rattle.machine.specs.Setup.{status_ok, state_ok, sound}
 use Rattle.machine.specs.Registers.{written}
-use Rattle.machine.proofs.Setup.{state_sizes, state_status}
+use Rattle.machine.proofs.Rules.{state_sizes, state_status}
 use Rattle.instructions.specs.WordOutcomes.{word_outcome}
 use Rattle.instructions.specs.Inside.Effects.{Effect, applied, form_effect}
 use Rattle.instructions.proofs.Outcomes.{word_either}

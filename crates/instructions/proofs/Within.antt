@@ -1,6 +1,5 @@
 -- The numbers of an accepted form's effect are in range, and its granules inside. Assumes nothing.
 use Rattle.std.proofs.Common.{◌≡◌, ℕ, ◌*◌, ◌≤◌, true, eqb, length, refl, arith}
-use mathlib.Core.Bool.{false≢true}
 use lib.ListN.{length-replicate}
 use Rattle.bits.proofs.Bounds.{cond_lt}
 use Rattle.isa.specs.declared.Mode.{Mode}
@@ -19,7 +18,7 @@ use Rattle.machine.specs.State.{State}
 use Rattle.machine.specs.Setup.{sound}
 use Rattle.machine.specs.Codes.{is_done}
 use Rattle.machine.specs.Registers.{x_or_sp, or_none}
-use Rattle.machine.proofs.Setup.{state_sized}
+use Rattle.machine.proofs.Rules.{state_sized}
 use Rattle.instructions.specs.Accesses.{access, address_of, granules_named, writeback_to}
 use Rattle.instructions.specs.Inside.Effects.{Change, new_bytes, Within, register_effect, store_effect, zeroing, form_effect}
 use Rattle.instructions.specs.Inside.Places.{access_code}
@@ -29,7 +28,7 @@ use Rattle.instructions.proofs.Places.{accepted}
 -- a word that changes no memory
 pub register_within : (g n v : ℕ) (status : Status) → n ≤ 32 → Within (register_effect n v status) g
 register_within g n v status h =
-    record { register = h; few = omega arith; inside = omega arith; wide = omega arith; some = λ h. absurd (false≢true h); none = λ z. refl }
+    record { register = h; few = omega arith; inside = omega arith; wide = omega arith; some = λ h. absurd (cc); none = λ z. refl }
 
 -- and drops its result where the number is 31
 pub or_none_le : (n : ℕ) → n ≤ 31 → or_none n ≤ 32

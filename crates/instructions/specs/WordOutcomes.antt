@@ -1,11 +1,9 @@
 -- One word on a state: its code, and the state after it (document 01, "What each word does", "Codes and their order").
-use Rattle.std.specs.Prelude.{ℕ, Bool, true, false, cond, not, List, ◌∷◌, length}
+use Rattle.std.specs.Prelude.{ℕ, Bool, true, false, cond, not, List, ◌∷◌, length, Option, Some, None}
 use Rattle.isa.specs.declared.TwoSourceOp.{TwoSourceOp}
 use Rattle.isa.specs.declared.TwoSourceOp.TheVariants.{Subp, Subps, Irg, Gmi}
 use Rattle.isa.specs.declared.Form.{Form}
 use Rattle.isa.specs.declared.Form.TheVariants.{AddSub, TwoSource, Ldg, TagStore, Stgp}
-use Rattle.isa.specs.declared.Decoded.{Decoded}
-use Rattle.isa.specs.declared.Decoded.TheVariants.{Is, Undefined as NoForm}
 use Rattle.isa.specs.Decoding.{decode_of}
 use Rattle.machine.specs.declared.Code.{Code}
 use Rattle.machine.specs.declared.Code.TheVariants.{Setup, Undefined}
@@ -30,28 +28,28 @@ operation (Ldg t n amount) s = ldg t n amount s
 operation (TagStore op mode t n amount) s = tag_store op mode t n amount s
 operation (Stgp mode t t2 n amount) s = stgp mode t t2 n amount s
 
-abbrev pub carried_out : Decoded → State → State
-carried_out NoForm s = s
-carried_out (Is f) s = operation f s
+abbrev pub carried_out : Option Form → State → State
+carried_out None s = s
+carried_out (Some f) s = operation f s
 
 -- when a word is refused
 
-abbrev pub is_undefined : Decoded → Bool
-is_undefined NoForm = true
-is_undefined (Is f) = false
+abbrev pub is_undefined : Option Form → Bool
+is_undefined None = true
+is_undefined (Some f) = false
 
-abbrev pub access_in : Decoded → State → Access
-access_in NoForm s = no_access
-access_in (Is f) s = access_of f s
+abbrev pub access_in : Option Form → State → Access
+access_in None s = no_access
+access_in (Some f) s = access_of f s
 
 -- the refusals of a word in the order of their numbers, on a setup that keeps its rules or does not
-abbrev pub word_checks : Bool → Decoded → State → List Check
+abbrev pub word_checks : Bool → Option Form → State → List Check
 word_checks setup decoded s =
     check Setup (not setup)
     ∷ check Undefined (is_undefined decoded)
     ∷ access_checks s.settings.base (length s.tags) (access_in decoded s)
 
-abbrev pub code_of : Bool → Decoded → State → Code
+abbrev pub code_of : Bool → Option Form → State → Code
 code_of setup decoded s = lowest (word_checks setup decoded s)
 
 -- a code and a state

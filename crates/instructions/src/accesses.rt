@@ -1,37 +1,30 @@
 // The memory that LDG and the stores access.
 ghost use Rattle.std.specs.Prelude.{◌≡◌, ◌*◌, ◌%◌, ◌≤◌, true, not, ◌&&◌, if◌then◌else◌, ◌==◌, nat_eq};
-ghost use Rattle.isa.specs.Inside.DecodingBranches.{mode_of};
 ghost use Rattle.memory.specs.Sizes.{sizes_ok};
 ghost use Rattle.instructions.specs.Accesses.{address_of, writeback_to};
 ghost use Rattle.instructions.specs.Inside.Places.{load_place, store_place};
 
+use isa::Mode;
 use machine::{Code, Settings};
-use memory::Granule;
 
-// The first granule that an access names, or its refusal.
-#[derive(Clone, Copy)]
-pub enum Placed {
-    First(usize),
-    Nowhere(Code),
-}
-
-// The address of a store whose base register holds `rn`. A mode goes by its two bits: 1 post, 3 pre, 2 offset.
-pub fn address_of(mode: u64, rn: u64, amount: u64) -> u64
-    ensures { result ≡ address_of (mode_of mode) rn amount }
+// The address of a store whose base register holds `rn`.
+pub fn address_of(mode: Mode, rn: u64, amount: u64) -> u64
+    ensures { result ≡ address_of mode rn amount }
 {
-    if mode == 1 {
-        return rn;
+    match mode {
+        Mode::Post => rn,
+        Mode::Pre | Mode::Offset => rn.wrapping_add(amount),
     }
-    std::num::wrapping_add_u64(rn, amount)
 }
 
 // The register that is written back, 32 for none.
-pub fn writeback_to(mode: u64, n: u64) -> u64
-    requires le_mode { 1 ≤ mode }
-    requires mode_bound { mode ≤ 3 }
-    ensures { result ≡ writeback_to (mode_of mode) n }
+pub fn writeback_to(mode: Mode, n: u64) -> u64
+    ensures { result ≡ writeback_to mode n }
 {
-    if mode == 2 { 32 } else { n }
+    match mode {
+        Mode::Post | Mode::Pre => n,
+        Mode::Offset => 32,
+    }
 }
 
 // The refusal of an address that is not aligned, nor is the base register.
@@ -50,7 +43,7 @@ pub fn place(
     rn: u64,
     address: u64,
     count: usize,
-) -> Placed
+) -> Result<usize, Code>
     requires granules_value { sizes_ok settings.base (16 * granules) granules ≡ true }
     requires le_count { 1 ≤ count }
     requires count_bound { count ≤ 2 }
@@ -58,35 +51,32 @@ pub fn place(
     ensures { result ≡ store_place settings.base granules n rn address count }
 {
     if rn % 16 != 0 {
-        return Placed::Nowhere(misaligned(n));
+        return Err(misaligned(n));
     }
-    match memory::locate(settings.base, granules, address, count) {
-        Granule::At(first) => Placed::First(first),
-        Granule::Outside => Placed::Nowhere(Code::Outside),
-    }
+    Ok(memory::locate(settings.base, granules, address, count)?)
 }
 
 // Whether the base register is SP and holds no multiple of 16.
 fn is_sp_misaligned(n: u64, rn: u64) -> bool
     ensures { result ≡ (n == 31 && not (rn % 16 == 0)) }
 {
-    if n == 31 {
-        return rn % 16 != 0;
-    }
-    false
+    n == 31 && rn % 16 != 0
 }
 
 // The granule that LDG names, or the refusal of the lowest code. Its address is rounded down, which leaves the granule as it is.
-pub fn place_load(settings: Settings, granules: usize, n: u64, rn: u64, amount: u64) -> Placed
+pub fn place_load(
+    settings: Settings,
+    granules: usize,
+    n: u64,
+    rn: u64,
+    amount: u64,
+) -> Result<usize, Code>
     requires { sizes_ok settings.base (16 * granules) granules ≡ true }
     ensures { result ≡ load_place settings.base granules n rn amount }
 {
     if is_sp_misaligned(n, rn) {
-        return Placed::Nowhere(Code::SpAlign);
+        return Err(Code::SpAlign);
     }
-    let address = std::num::wrapping_add_u64(rn, amount);
-    match memory::locate(settings.base, granules, address - address % 16, 1) {
-        Granule::At(first) => Placed::First(first),
-        Granule::Outside => Placed::Nowhere(Code::Outside),
-    }
+    let address = rn.wrapping_add(amount);
+    Ok(memory::locate(settings.base, granules, address - address % 16, 1)?)
 }

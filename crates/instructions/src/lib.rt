@@ -1,5 +1,5 @@
 // What the words compute: the value that a register gets, and the granules that an access finds. The modules are public because
-// `simulator` calls their functions.
+// `execution` calls their functions.
 #![tactic(auto)]
 
 pub mod accesses;

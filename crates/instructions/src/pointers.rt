@@ -1,5 +1,5 @@
 // ADDG, SUBG, SUBP, SUBPS and GMI: pointers and their tags.
-ghost use Rattle.std.specs.Prelude.{◌≡◌, ◌<◌, ◌≤◌, if◌then◌else◌};
+ghost use Rattle.std.specs.Prelude.{◌≡◌, ◌<◌};
 ghost use Rattle.instructions.specs.RegisterWords.{add_sub_result, chosen_or0, difference, difference_flags, extended, moved, with_tag_bit};
 
 use isa::AddSubOp;
@@ -9,20 +9,22 @@ fn moved_by(op: AddSubOp, v: u64, amount: u64) -> u64
     ensures { result ≡ moved op v amount }
 {
     match op {
-        AddSubOp::Addg => std::num::wrapping_add_u64(v, amount),
-        AddSubOp::Subg => std::num::wrapping_sub_u64(v, amount),
+        AddSubOp::Addg => v.wrapping_add(amount),
+        AddSubOp::Subg => v.wrapping_sub(amount),
     }
 }
 
+#[tactic(auto, using(tag::proofs::TagChoice::chosen_lt))]
 fn choose_or_0(settings: Settings, start: u8, offset: u8) -> u8
     requires { start < 16 }
     ensures value { result ≡ chosen_or0 settings start offset settings.exclude }
     ensures upper_bound { result < 16 }
 {
     if settings.access {
-        return tag::choose(start, offset, settings.exclude);
+        tag::choose(start, offset, settings.exclude)
+    } else {
+        0
     }
-    0
 }
 
 // ADDG, SUBG. The start tag is that of the operand before the sum.
@@ -41,43 +43,36 @@ fn extend(v: u64) -> u64
 {
     let low = bits::field(v, 0, 56);
     if bits::field(v, 55, 1) == 1 {
-        return low + 0xff00_0000_0000_0000;
+        low + 0xff00_0000_0000_0000
+    } else {
+        low
     }
-    low
 }
 
 // SUBP, SUBPS: the difference of two pointers.
 pub fn subtract(a: u64, b: u64) -> u64
     ensures { result ≡ difference a b }
 {
-    std::num::wrapping_sub_u64(extend(a), extend(b))
-}
-
-fn flag(set: bool, v: u64) -> u64
-    ensures value { result ≡ (if set then v else 0) }
-    ensures upper_bound { result ≤ v }
-{
-    if set { v } else { 0 }
+    extend(a).wrapping_sub(extend(b))
 }
 
 // SUBPS: NZCV of the difference of two pointers. V is never set: the operands have 56 significant bits.
-pub fn flags(a: u64, b: u64) -> u64
+pub fn flags(a: u64, b: u64) -> u8
     ensures value { result ≡ difference_flags a b }
     ensures upper_bound { result < 16 }
 {
     let left = extend(a);
     let right = extend(b);
-    let result = std::num::wrapping_sub_u64(left, right);
-    let n = bits::field(result, 63, 1);
-    let z = flag(result == 0, 4);
-    let c = flag(right <= left, 2);
-    n * 8 + z + c
+    let result = left.wrapping_sub(right);
+    let n = bits::field(result, 63, 1) as u8;
+    let z = u8::from(result == 0);
+    let c = u8::from(right <= left);
+    n * 8 + z * 4 + c * 2
 }
 
 // GMI: a mask with the bit of a pointer's tag set.
 pub fn insert(mask: u64, pointer: u64) -> u64
     ensures { result ≡ with_tag_bit mask pointer }
 {
-    let number = tag::tag_of(pointer) as u64;
-    bits::put(mask, number, 1, 1)
+    bits::put(mask, u64::from(tag::tag_of(pointer)), 1, 1)
 }

@@ -1,17 +1,8 @@
 // IRG: a random tag.
 ghost use Rattle.std.specs.Prelude.{◌≡◌, ◌<◌};
-ghost use Rattle.tag.specs.RandomBits.{bits_drawn, seed_drawn};
-ghost use Rattle.tag.specs.TagChoice.{chosen};
-ghost use Rattle.instructions.specs.RegisterWords.{mask_of};
+ghost use Rattle.instructions.specs.RegisterWords.{after_draw, mask_of};
 
-use machine::Settings;
-
-// A tag that was chosen, and the seed after it.
-#[derive(Clone, Copy)]
-pub struct Chosen {
-    pub tag: u8,
-    pub seed: u16,
-}
+use machine::{Settings, Status};
 
 // The exclude mask with the low 16 bits of what Rm holds.
 pub fn mask_of(settings: Settings, rm: u64) -> u16
@@ -20,16 +11,17 @@ pub fn mask_of(settings: Settings, rm: u64) -> u16
     settings.exclude | bits::field(rm, 0, 16) as u16
 }
 
-// Chooses a tag by four random bits, from RGSR's tag on.
-pub fn choose(rgsr: u8, seed: u16, mask: u16) -> Chosen
-    requires { rgsr < 16 }
-    ensures tag_value { result.tag ≡ chosen rgsr (bits_drawn 4 seed) mask }
-    ensures tag_bound { result.tag < 16 }
-    ensures seed_value { result.seed ≡ seed_drawn 4 seed }
+// The status once a tag is chosen by four random bits, from RGSR's tag on: the tag is RGSR's then.
+#[tactic(auto, using(tag::proofs::TagChoice::chosen_lt))]
+pub fn choose(status: Status, mask: u16) -> Status
+    requires { status.rgsr < 16 }
+    ensures value { result ≡ after_draw status mask }
+    ensures upper_bound { result.rgsr < 16 }
 {
-    let drawn = tag::draw(seed);
-    Chosen {
-        tag: tag::choose(rgsr, drawn.bits, mask),
+    let drawn = tag::draw(status.seed);
+    Status {
+        rgsr: tag::choose(status.rgsr, drawn.bits, mask),
         seed: drawn.seed,
+        ..status
     }
 }

@@ -10,8 +10,5 @@ pub fn load(settings: Settings, tags: &[u8], i: usize) -> u8
     ensures value { result ≡ loaded_tag settings tags.now i }
     ensures upper_bound { result < 16 }
 {
-    if settings.access {
-        return tags[i] % 16;
-    }
-    0
+    if settings.access { tags[i] % 16 } else { 0 }
 }

@@ -2,7 +2,6 @@
 pub mod Amounts
 pub mod Branches
 pub mod Decoding
-pub mod Encoding
 pub mod Fits
 pub mod RoundTrip
 pub mod Table

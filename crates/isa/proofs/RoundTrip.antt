@@ -120,7 +120,7 @@ found_at w f g false rest p fit next e = next e
 
 found : (w : ℕ) (f : Form) {fs : List Form} → AllFit fs → form_of w fs ≡ Some f → Encodes f w
 unfolding form_of
-found w f none e = let z : ◌≡◌ {A = ℕ} 0 1 = cc in absurd (omega arith)
+found w f none e = absurd (cc)
 found w f (more {f = g} {fs = gs} fit rest) e = found_at w f g (eqb (word_of g) w) (form_of w gs) refl fit (found w f rest) e
 
 -- the fields of a word are in range

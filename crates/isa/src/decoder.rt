@@ -1,5 +1,5 @@
-// The forms of a word whose bits 31:22 are known. The module is public because `execution` calls `signed`.
-ghost use Rattle.std.specs.Prelude.{◌≡◌, ◌*◌, ◌<◌, ◌≤◌, Some};
+// The forms of a word whose bits 31:22 are known. The module is public because `execution` calls `signed` and `mode_of`.
+ghost use Rattle.std.specs.Prelude.{◌≡◌, ◌*◌, ◌<◌, ◌≤◌};
 ghost use Rattle.bits.specs.Fields.{bits_at};
 ghost use Rattle.isa.specs.Decoding.{signed_amount, two_source_at, tag_store_at, stgp_at};
 ghost use Rattle.isa.specs.Inside.DecodingBranches.{add_sub_branch, two_source_branch, subps_branch, ldg_branch, mode_of, mode_branch, if_bit21};
@@ -15,7 +15,7 @@ pub fn signed(imm: u64, half: u64) -> u64
     if imm < half {
         imm << 4
     } else {
-        u64::MAX - ((2 * half - imm) << 4) + 1
+        ((2 * half - imm) << 4).wrapping_neg()
     }
 }
 

@@ -1,7 +1,7 @@
 // The word of a form, and whether its fields are in range.
-ghost use Rattle.std.specs.Prelude.{◌≡◌, ◌&&◌, true, ◌+◌, ◌*◌, ◌^◌, ◌<◌, leb};
+ghost use Rattle.std.specs.Prelude.{◌≡◌, true, ◌+◌, ◌*◌, ◌^◌, ◌<◌};
 ghost use Rattle.bits.specs.Fields.{bits_at};
-ghost use Rattle.isa.specs.Encoding.{register, amount_in, fields_fit};
+ghost use Rattle.isa.specs.Encoding.{amount_in, fields_fit};
 ghost use Rattle.isa.specs.Words.{add_sub_bits, two_source_bits, tag_store_bits, mode_bits, stgp_bits, granule_count, word_of};
 
 use super::{AddSubOp, Form, Mode, TagStoreOp, TwoSourceOp};
@@ -10,7 +10,7 @@ use super::{AddSubOp, Form, Mode, TagStoreOp, TwoSourceOp};
 fn amount_in(low: u64, high: u64, amount: u64) -> bool
     ensures { result ≡ amount_in low high amount }
 {
-    bits::field(amount, 0, 4) == 0 && (amount <= high || u64::MAX - low < amount)
+    amount.is_multiple_of(16) && (amount <= high || amount.wrapping_neg() <= low)
 }
 
 // Whether each field of a form is in its range.

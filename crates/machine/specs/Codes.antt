@@ -1,5 +1,5 @@
 -- The codes and their order (document 01, "Codes and their order").
-use Rattle.std.specs.Prelude.{ℕ, ◌<◌, ◌≤◌, ◌≡◌, Bool, true, cond, List, [], ◌∷◌, ◌⊎◌, eqb}
+use Rattle.std.specs.Prelude.{ℕ, ◌<◌, ◌≤◌, ◌≡◌, Bool, true, cond, List, [], ◌∷◌, ◌⊎◌, eqb, Result, Ok, Err}
 use Rattle.machine.specs.declared.Code.{Code}
 use Rattle.machine.specs.declared.Code.TheVariants.{Done, Setup, Undefined, SpAlign, Align, Outside, NoHistory, BadRecord, Field}
 
@@ -16,6 +16,11 @@ code_number Field = 8
 
 abbrev pub is_done : Code → Bool
 is_done code = eqb (code_number code) 0
+
+-- the code of an answer that may be a refusal
+abbrev pub code_in : {A : Type 0} → Result A Code → Code
+code_in (Ok a) = Done
+code_in (Err code) = code
 
 -- a refusal, and whether it applies
 pub record Check : Type 0 where

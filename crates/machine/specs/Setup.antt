@@ -1,10 +1,12 @@
 -- The rules of the setup (document 01, "Sizes and shape of the setup").
-use Rattle.std.specs.Prelude.{ℕ, ◌/◌, Bool, cond, ◌&&◌, leb, ltb, eqb, length}
+use Rattle.std.specs.Prelude.{ℕ, ◌/◌, Bool, cond, ◌&&◌, leb, ltb, eqb, length, Result, Ok, Err}
 use Rattle.memory.specs.Sizes.{sizes_ok}
 use Rattle.machine.specs.declared.Settings.{Settings}
 use Rattle.machine.specs.declared.Status.{Status}
 use Rattle.machine.specs.declared.Cursor.{Cursor}
 use Rattle.machine.specs.declared.Machine.{Machine}
+use Rattle.machine.specs.declared.Code.{Code}
+use Rattle.machine.specs.declared.Code.TheVariants.{Setup}
 use Rattle.machine.specs.State.{State}
 
 -- NZCV and RGSR's tag are each at most 15
@@ -30,3 +32,7 @@ slots_of words = words / 8
 -- the whole rule
 unfoldable pub setup_ok : Machine → ℕ → ℕ → ℕ → Bool
 setup_ok m bytes g words = state_ok m.settings m.registers.status bytes g && cursor_ok (slots_of words) m.cursor
+
+-- what a setup that breaks it gets
+abbrev pub checked : Machine → ℕ → ℕ → ℕ → Result Unit Code
+checked m bytes g words = cond (setup_ok m bytes g words) (Ok tt) (Err Setup)

@@ -3,4 +3,3 @@ pub mod Lists
 pub mod Locations
 pub mod Sizes
 pub mod Stores
-mod Tests

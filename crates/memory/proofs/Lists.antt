@@ -1,6 +1,8 @@
 -- Laws of `sets`, a run of stores: in a part, one run after another, and a run taken back. Assumes nothing.
-use Rattle.std.proofs.Common.{◌≡◌, ℕ, zero, suc, ◌+◌, ◌-◌, ◌≤◌, List, [], ◌∷◌, ◌++◌, length, take, drop, set, refl, ◌∙◌, append-nil, zero-le, le_refl, le_of_suc-le-suc, not-suc-le-zero, add-zero, add-suc, suc-add, zero-add, length-drop, drop_of_length-le, take_all}
-use lib.Seq.{sets}
+use Rattle.std.proofs.Common.{◌≡◌, sym, ℕ, zero, suc, ◌+◌, ◌-◌, ◌≤◌, List, [], ◌∷◌, ◌++◌, length, take, drop, set, refl, ◌∙◌, append-nil, zero-le, le_refl, le_of_suc-le-suc, not-suc-le-zero, add-zero, add-suc, suc-add, zero-add, length-drop, drop_of_length-le, take_all, drop-drop, append_assoc, length-take-le, replicate, arith}
+use lib.ListN.{length-replicate}
+use lib.Seq.{sets, sets-eq}
+use borrow.Rule.Slice.PartMut.{put_mid}
 
 module _ {A : Type 0} where
   sets_nil : (vs : List A) (i : ℕ) → sets [] i vs ≡ []
@@ -23,6 +25,17 @@ module _ {A : Type 0} where
   back_part a l ys vs e =
       let all : length (drop a l) ≤ length l - a = rw length-drop (le_refl (length l - a)) in
       rw (drop_of_length-le (drop a l) all, append-nil ys, e, take_all (length l - a) (drop a l) all) (sets_part a l vs)
+
+  -- and what the part comes back as that a run fills
+  pub filled_part : (a n : ℕ) (l ys vs : List A) → ys ≡ vs → length vs ≡ n → a + n ≤ length l → put_mid a n l ys ≡ sets l a vs
+  filled_part a n l ys vs e k h = rw (e, sets-eq vs l a (rw k h), k, drop-drop n a l) (sym (append_assoc (take a l) vs (drop (a + n) l)))
+
+  -- a part filled with one value
+  pub filled : (a n : ℕ) (l ys : List A) (v : A) → ys ≡ replicate (length (take n (drop a l))) v → a + n ≤ length l
+      → put_mid a n l ys ≡ sets l a (replicate n v)
+  filled a n l ys v e h =
+      let k : length (take n (drop a l)) ≡ n = length-take-le n (drop a l) (rw length-drop (omega arith)) in
+      filled_part a n l ys (replicate n v) (rw k at e) (length-replicate n v) h
 
   -- two runs, one after the other
   pub sets_append : (us l : List A) (i : ℕ) (vs : List A) → sets l i (us ++ vs) ≡ sets (sets l i us) (i + length us) vs

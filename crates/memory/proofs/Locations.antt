@@ -1,8 +1,9 @@
 -- Laws of the granules that an address names. Assumes nothing.
 use Rattle.std.proofs.Common.{◌≡◌, ℕ, zero, suc, ◌+◌, ◌-◌, ◌*◌, ◌/◌, ◌%◌, ◌^◌, ◌<◌, ◌≤◌, Bool, true, false, cond, ltb, leb, refl, arith, ltb-true, lt-ltb, le-leb, leb-true}
+use Rattle.std.specs.Prelude.{Ok, Err}
 use mathlib.Core.Bool.{and-eq-true_iff}
 use Rattle.memory.specs.Locations.{location, inside, all_inside, granule_of, onward, index_of}
-use Rattle.memory.specs.declared.Granule.TheVariants.{At, Outside}
+use Rattle.memory.specs.declared.LocateError.TheVariants.{Outside}
 use Rattle.memory.proofs.Sizes.{Sized}
 
 -- what an address inside lies between
@@ -79,17 +80,17 @@ all_inside_lem base bytes g (suc (suc n)) address s z low high =
     )
 
 -- an index is that of the first granule, and all are inside
-pub located : (base g address n i : ℕ) → granule_of base g address n ≡ At i
+pub located : (base g address n i : ℕ) → granule_of base g address n ≡ Ok i
     → (all_inside base g n address ≡ true) × (i ≡ index_of base address)
 unfolding granule_of
 located base g address n i h = go (all_inside base g n address) refl h
   where
-    go : (t : Bool) → all_inside base g n address ≡ t → cond t (At (index_of base address)) Outside ≡ At i
+    go : (t : Bool) → all_inside base g n address ≡ t → cond t (Ok (index_of base address)) (Err Outside) ≡ Ok i
         → (all_inside base g n address ≡ true) × (i ≡ index_of base address)
     go true e k = (e, cc)
     go false e k = let z : ◌≡◌ {A = ℕ} 0 1 = cc in absurd (omega arith)
 
-pub one_inside : (base g address : ℕ) → inside base g address ≡ true → At (index_of base address) ≡ granule_of base g address 1
+pub one_inside : (base g address : ℕ) → inside base g address ≡ true → Ok (index_of base address) ≡ granule_of base g address 1
 unfolding granule_of all_inside
 one_inside base g address e = rw e
 
@@ -107,7 +108,7 @@ module _ (base bytes g n address d : ℕ) (s : Sized base bytes g) (some : 1 ≤
   located_low : base ≤ location address → d ≡ location address - base
   located_low low = no_borrow base (location address) d low (omega arith) small e
 
-  pub found : d / 16 + n ≤ g → At (d / 16) ≡ granule_of base g address n
+  pub found : d / 16 + n ≤ g → Ok (d / 16) ≡ granule_of base g address n
   unfolding granule_of
   found h =
       let few = s.few in
@@ -116,11 +117,11 @@ module _ (base bytes g n address d : ℕ) (s : Sized base bytes g) (some : 1 ≤
       let same = located_low low in
       rw (same, all_inside_lem base bytes g n address s z low (omega (arith, same)))
 
-  pub missed : g < d / 16 + n → Outside ≡ granule_of base g address n
+  pub missed : g < d / 16 + n → Err Outside ≡ granule_of base g address n
   unfolding granule_of
   missed beyond = go (all_inside base g n address) refl
     where
-      go : (t : Bool) → all_inside base g n address ≡ t → Outside ≡ cond t (At (index_of base address)) Outside
+      go : (t : Bool) → all_inside base g n address ≡ t → Err Outside ≡ cond t (Ok (index_of base address)) (Err Outside)
       go true h =
           let k = within base bytes g n address s z h some in
           let same : d / 16 ≡ index_of base address = rw (located_low k.0) refl in

@@ -1,5 +1,6 @@
 -- What the rule on sizes and base tells. Assumes nothing.
-use Rattle.std.proofs.Common.{◌≡◌, ℕ, ◌+◌, ◌*◌, ◌%◌, ◌^◌, ◌≤◌, true, ◌&&◌, eqb, leb, eqb-true, leb-true}
+use Rattle.std.proofs.Common.{◌≡◌, refl, sym, ℕ, ◌+◌, ◌-◌, ◌*◌, ◌%◌, ◌^◌, ◌≤◌, Bool, true, false, ◌&&◌, eqb, leb, eqb-true, leb-true, leb-false, le-leb, arith}
+use borrow.Author.Tests.{lt-leb}
 use mathlib.Core.Bool.{and-eq-true_iff}
 use Rattle.memory.specs.Sizes.{sizes_ok}
 
@@ -24,3 +25,11 @@ sized base bytes g h =
       aligned = eqb-true (base % 16) 0 third.1;
       below = leb-true (base + 16 * g) (2 ^ 56) fourth.1;
     }
+
+-- the last test of the rule, without a sum that could wrap
+pub sum_below : (base g : ℕ) → g ≤ 65536 → leb base (2 ^ 56 - 16 * g) ≡ leb (base + 16 * g) (2 ^ 56)
+sum_below base g few = go (leb base (2 ^ 56 - 16 * g)) refl
+  where
+    go : (t : Bool) → leb base (2 ^ 56 - 16 * g) ≡ t → t ≡ leb (base + 16 * g) (2 ^ 56)
+    go true e = sym (le-leb (base + 16 * g) (2 ^ 56) (omega (arith, leb-true base (2 ^ 56 - 16 * g) e)))
+    go false e = sym (lt-leb (base + 16 * g) (2 ^ 56) (omega (arith, leb-false base (2 ^ 56 - 16 * g) e)))

@@ -1,7 +1,7 @@
 -- The granules that an address names (document 01, "Addresses", and code 5 of "Codes and their order").
-use Rattle.std.specs.Prelude.{ℕ, zero, suc, ◌+◌, ◌-◌, ◌*◌, ◌/◌, ◌%◌, ◌^◌, Bool, true, cond, ◌&&◌, nat_le, nat_lt}
-use Rattle.memory.specs.declared.Granule.{Granule}
-use Rattle.memory.specs.declared.Granule.TheVariants.{At, Outside}
+use Rattle.std.specs.Prelude.{ℕ, zero, suc, ◌+◌, ◌-◌, ◌*◌, ◌/◌, ◌%◌, ◌^◌, Bool, true, cond, ◌&&◌, nat_le, nat_lt, Result, Ok, Err}
+use Rattle.memory.specs.declared.LocateError.{LocateError}
+use Rattle.memory.specs.declared.LocateError.TheVariants.{Outside}
 
 -- a location is an address mod 2^56
 abbrev pub location : ℕ → ℕ
@@ -25,10 +25,10 @@ all_inside base g zero address = true
 all_inside base g (suc n) address = inside base g address && all_inside base g n (onward address 16)
 
 -- the index of the first of n granules, or outside if one of them is
-unfoldable pub granule_of : ℕ → ℕ → ℕ → ℕ → Granule
-granule_of base g address n = cond (all_inside base g n address) (At (index_of base address)) Outside
+unfoldable pub granule_of : ℕ → ℕ → ℕ → ℕ → Result ℕ LocateError
+granule_of base g address n = cond (all_inside base g n address) (Ok (index_of base address)) (Err Outside)
 
 -- 0 DONE, 5 OUTSIDE
-abbrev pub granule_code : Granule → ℕ
-granule_code (At i) = 0
-granule_code Outside = 5
+abbrev pub granule_code : Result ℕ LocateError → ℕ
+granule_code (Ok i) = 0
+granule_code (Err Outside) = 5

@@ -3,49 +3,43 @@
 // own crates call it, with granules that they know to be inside.
 #![tactic(auto)]
 
-ghost use Rattle.std.specs.Prelude.{◌≡◌, ◌+◌, ◌*◌, ◌%◌, ◌≤◌, true, length, replicate};
+ghost use Rattle.std.specs.Prelude.{◌≡◌, ◌+◌, ◌*◌, ◌%◌, ◌≤◌, true, length, replicate, slice_index, take, Err};
 ghost use Rattle.std.proofs.lemmas.List.Edits.{sets};
 ghost use Rattle.memory.specs.Locations.{granule_code, granule_of};
 ghost use Rattle.memory.specs.Sizes.{sizes_ok};
-ghost use Rattle.memory.specs.Stores.{pair_bytes, saved_bytes, saved_tags, zero_bytes};
+ghost use Rattle.memory.specs.Stores.{pair_bytes, saved_bytes, zero_bytes};
 
-// The first of the granules that an address names, or none where one of them is outside.
-#[derive(Clone, Copy)]
-pub enum Granule {
-    At(usize),
+// Why an address has no first granule: one of the granules that it names is outside.
+#[derive(Clone, Copy, Debug, PartialEq, Eq)]
+pub enum LocateError {
     Outside,
 }
 
-impl Granule {
-    // The code: 0 DONE, 5 OUTSIDE.
+impl LocateError {
+    // The code 5, OUTSIDE.
     pub fn number(self) -> u32
-        ensures { result ≡ granule_code self }
+        ensures { result ≡ granule_code (Err self) }
     {
         match self {
-            Granule::At(_) => 0,
-            Granule::Outside => 5,
+            LocateError::Outside => 5,
         }
     }
 }
 
 // Whether the sizes and the base keep the rule of the setup.
+#[tactic(auto, using(crate::proofs::Sizes::sum_below), unfolding(crate::specs::Sizes::sizes_ok))]
 pub fn sizes_ok(base: u64, bytes: usize, granules: usize) -> bool
     ensures { result ≡ sizes_ok base bytes granules }
 {
-    if 65536 < granules {
-        return false;
-    }
-    if bytes != 16 * granules {
-        return false;
-    }
-    if base % 16 != 0 {
-        return false;
-    }
-    base <= 0x100_0000_0000_0000 - 16 * granules as u64
+    granules <= 65536
+        && bytes == 16 * granules
+        && base % 16 == 0
+        && base <= 0x100_0000_0000_0000 - 16 * granules as u64
 }
 
-// The granules that an address names, so many from its own on. What lies below the base has an index past every memory's end.
-pub fn locate(base: u64, granules: usize, address: u64, count: usize) -> Granule
+// The first of the granules that an address names, so many from its own on. What lies below the base has an index past
+// every memory's end.
+pub fn locate(base: u64, granules: usize, address: u64, count: usize) -> Result<usize, LocateError>
     requires granules_value { sizes_ok base (16 * granules) granules ≡ true }
     requires le_count { 1 ≤ count }
     requires count_bound { count ≤ 65536 }
@@ -53,26 +47,22 @@ pub fn locate(base: u64, granules: usize, address: u64, count: usize) -> Granule
     ensures { result ≡ granule_of base granules address count }
 {
     let location = address % 0x100_0000_0000_0000;
-    let index = std::num::wrapping_sub_u64(location, base) / 16;
+    let index = location.wrapping_sub(base) / 16;
     if (granules as u64) < index + count as u64 {
-        return Granule::Outside;
+        return Err(LocateError::Outside);
     }
-    Granule::At(index as usize)
+    Ok(index as usize)
 }
 
-// Zeroes the data of so many granules. The first is mostly the only one, and is stored apart.
+// Zeroes the data of so many granules: mostly one, which two stores zero sooner than a call that fills.
 pub fn zero(part: &mut [u8], granules: usize)
     requires { 16 * granules ≤ length part.old }
     ensures { part.new ≡ sets part.old 0 (zero_bytes granules) }
 {
-    if granules == 0 {
-        return;
-    }
-    store_pair(part, 0, 0);
-    let mut i = 1;
-    while i < granules {
-        store_pair(&mut part[16 * i..], 0, 0);
-        i += 1;
+    if granules == 1 {
+        store_pair(part, 0, 0);
+    } else {
+        part[..16 * granules].fill(0);
     }
 }
 
@@ -86,11 +76,12 @@ pub fn store_pair(part: &mut [u8], low: u64, high: u64)
 }
 
 // Stores the words saved of so many granules.
-pub fn restore(part: &mut [u8], granules: usize, a: u64, b: u64, c: u64, d: u64)
+pub fn restore(part: &mut [u8], granules: usize, saved: [u64; 4])
     requires granules_bound { granules ≤ 2 }
     requires granules_in_bounds { 16 * granules ≤ length part.old }
-    ensures { part.new ≡ sets part.old 0 (saved_bytes granules a b c d) }
+    ensures { part.new ≡ sets part.old 0 (let word = slice_index saved in saved_bytes granules (word 0) (word 1) (word 2) (word 3)) }
 {
+    let [a, b, c, d] = saved;
     if granules == 0 {
         return;
     }
@@ -101,18 +92,12 @@ pub fn restore(part: &mut [u8], granules: usize, a: u64, b: u64, c: u64, d: u64)
 }
 
 // Stores the tag bytes saved of so many granules.
-pub fn restore_tags(tags: &mut [u8], at: usize, granules: usize, first: u8, second: u8)
+pub fn restore_tags(tags: &mut [u8], at: usize, granules: usize, saved: [u8; 2])
     requires granules_bound { granules ≤ 2 }
     requires granules_in_bounds { at + granules ≤ length tags.old }
-    ensures { tags.new ≡ sets tags.old at (saved_tags granules first second) }
+    ensures { tags.new ≡ sets tags.old at (take granules saved) }
 {
-    if granules == 0 {
-        return;
-    }
-    tags[at] = first;
-    if granules == 2 {
-        tags[at + 1] = second;
-    }
+    tags[at..at + granules].copy_from_slice(&saved[..granules]);
 }
 
 // Gives so many granules, one or two, a tag.
@@ -122,8 +107,5 @@ pub fn store_tags(tags: &mut [u8], at: usize, granules: usize, tag: u8)
     requires granules_in_bounds { at + granules ≤ length tags.old }
     ensures { tags.new ≡ sets tags.old at (replicate granules tag) }
 {
-    tags[at] = tag;
-    if granules == 2 {
-        tags[at + 1] = tag;
-    }
+    tags[at..at + granules].fill(tag);
 }

@@ -1,31 +1,13 @@
--- `bits::store_word` meets its contract: its stores are those of the bytes, one after the other. Assumes nothing.
-use mathlib.Core.Path.{ap}
-use native.Mathlib.Omega.{arith}
-use lib.ListN.{length-set}
-use lib.Seq.{sets}
+-- `bits::store_word` meets its contract. Assumes nothing.
+use Rattle.std.proofs.Common.{◌∙◌, sym, ap, arith, ◌++◌, drop, ℕ, List}
+use lib.Seq.{sets-eq}
+use Rattle.bits.specs.LittleEndian.{low_bytes, bytes_of}
 use Rattle.bits.proofs.LittleEndian.{bytes_apart}
 use Rattle.bits.proofs.store_word.Goals as goal
 
-pub bounds-part-1 : goal.bounds-part-1
-bounds-part-1 c = simp length-set (omega arith)
-
-pub bounds-part-2 : goal.bounds-part-2
-bounds-part-2 c = simp length-set (omega arith)
-
-pub bounds-part-3 : goal.bounds-part-3
-bounds-part-3 c = simp length-set (omega arith)
-
-pub bounds-part-4 : goal.bounds-part-4
-bounds-part-4 c = simp length-set (omega arith)
-
-pub bounds-part-5 : goal.bounds-part-5
-bounds-part-5 c = simp length-set (omega arith)
-
-pub bounds-part-6 : goal.bounds-part-6
-bounds-part-6 c = simp length-set (omega arith)
-
-pub bounds-part-7 : goal.bounds-part-7
-bounds-part-7 c = simp length-set (omega arith)
-
 pub returns : goal.returns
-returns c = ap (sets c.args.part.now 0) (bytes_apart c.args.v)
+unfolding low_bytes
+returns c =
+    let a = c.args in
+    ap (λ (bytes : List ℕ). bytes ++ drop 8 a.part.now) (c.copy_from_slice.ensures.after ∙ c.to_le_bytes.ensures ∙ bytes_apart a.v)
+    ∙ sym (sets-eq (bytes_of a.v) a.part.now 0 (omega arith))

@@ -1,12 +1,10 @@
 -- `memory::restore_tags` meets its contract. Assumes nothing.
-use Rattle.std.proofs.Common.{◌≡◌, add-one, arith, length-set}
+use Rattle.std.proofs.Common.{◌+◌, ◌-◌, ◌≡◌, take, arith, length-take-le}
+use Rattle.memory.proofs.Lists.{filled_part}
 use Rattle.memory.proofs.restore_tags.Goals as goal
 
-pub bounds-tags-at-then-granules-eq2 : goal.bounds-tags-at-then-granules-eq2
-bounds-tags-at-then-granules-eq2 c = simp length-set (omega arith)
-
-pub returns-then-granules-eq2 : goal.returns-then-granules-eq2
-returns-then-granules-eq2 c = rw (c.if-granules-eq2.true, add-one)
-
-pub returns-else-granules-eq2 : goal.returns-else-granules-eq2
-returns-else-granules-eq2 c = let one : c.args.granules ≡ 1 = omega arith in rw one
+pub returns : goal.returns
+returns c =
+    let a = c.args in
+    let n : a.at + a.granules - a.at ≡ a.granules = omega arith in
+    rw n (filled_part a.at a.granules a.tags.now _ (take a.granules a.saved) c.copy_from_slice.ensures.after (length-take-le _ _ (omega arith)) c.requires.granules_in_bounds)

@@ -1,9 +1,0 @@
--- `machine::register_file::x_or_zero` meets its contract. Assumes nothing.
-use borrow.Author.Tests.{eq-eqb, ne_eqb}
-use Rattle.machine.proofs.register_file.x_or_zero.Goals as goal
-
-pub returns-then-n-eq31 : goal.returns-then-n-eq31
-returns-then-n-eq31 c = rw (eq-eqb c.args.n 31 c.if-n-eq31.true)
-
-pub returns : goal.returns
-returns c = rw (ne_eqb c.args.n 31 c.if-n-eq31.false) c.x_or_sp.ensures

@@ -1,0 +1,7 @@
+-- That a setup is lent the same memory after a call as before it; no rule of document 01.
+use Rattle.std.specs.Prelude.{◌≡◌}
+use Rattle.machine.specs.declared.Setup.{Setup}
+
+-- the data and the tags are the same loans: what is written through the new setup is written where the old one was lent
+abbrev pub SameLoans : Setup → Setup → Type 0
+SameLoans old new = (new.bytes.ghost_name ≡ old.bytes.ghost_name) × (new.tags.ghost_name ≡ old.tags.ghost_name)
