@@ -31,7 +31,8 @@ pub fn store_word(part: &mut [u8], v: u64)
     requires { 8 ≤ length part.old }
     ensures { part.new ≡ sets part.old 0 (bytes_of v) }
 {
-    part[..8].copy_from_slice(&v.to_le_bytes());
+    let bytes = v.to_le_bytes();
+    part[..8].copy_from_slice(&bytes);
 }
 
 // The word of the first eight bytes, little-endian.

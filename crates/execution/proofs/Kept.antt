@@ -1,5 +1,5 @@
 -- What a step keeps, and a run of one word. Assumes nothing.
-use Rattle.std.proofs.Common.{◌≡◌, ℕ, Bool, true, false, cond, ◌↔◌, List, [], ◌∷◌, length, sym, refl, ap, ◌∙◌, subst, arith}
+use Rattle.std.proofs.Common.{◌≡◌, ◌≢◌, ℕ, Bool, true, false, cond, ◌↔◌, List, [], ◌∷◌, length, sym, refl, ap, ◌∙◌, subst, arith}
 use mathlib.Core.Bool.{and-eq-true_iff}
 use borrow.Author.Tests.{eqb-false}
 use Rattle.isa.specs.Decoding.{decode_of}
@@ -53,7 +53,7 @@ pub step_keeps : (s s' : Simulation) (w : ℕ) → well_formed s ≡ true → st
 step_keeps s s' w h e = (step_kept s s' w h e).formed
 
 -- no word is refused with DONE
-refusal : (s : Simulation) (w : ℕ) (code : Code) → step_of s w ≡ refused code → code_number code ≡ 0 → ⊥
+pub refusal : (s : Simulation) (w : ℕ) (code : Code) → step_of s w ≡ refused code → code_number code ≡ 0 → ⊥
 unfolding step_of
 refusal s w code e z = go (is_done o.code) refl e
   where
@@ -66,19 +66,19 @@ refusal s w code e z = go (is_done o.code) refl e
     go false p k = let q : o.code ≡ code = cc in eqb-false (code_number o.code) 0 p (ap code_number q ∙ z)
 
 -- a word taken, by its code
-module _ (s x : Simulation) (w : ℕ) (code : Code) (k : returned code 0 x ≡ answered s (step_of s w)) where
-  pub took_done : code_number code ≡ 0 → step_of s w ≡ done x
-  took_done z = go (step_of s w) refl k
+module _ (s x : Simulation) (w : ℕ) where
+  pub took_done : returned Done 0 x ≡ answered s (step_of s w) → step_of s w ≡ done x
+  took_done k = go (step_of s w) refl k
     where
-      go : (o : Out Simulation) → step_of s w ≡ o → returned code 0 x ≡ answered s o → o ≡ done x
+      go : (o : Out Simulation) → step_of s w ≡ o → returned Done 0 x ≡ answered s o → o ≡ done x
       go (done y) p q = ap done (sym (ap (λ (l : Returned Simulation). l.after) q))
-      go (refused c) p q = absurd (refusal s w c p (ap (λ (l : Returned Simulation). code_number l.answer.code) (sym q) ∙ z))
+      go (refused c) p q = absurd (refusal s w c p (ap (λ (l : Returned Simulation). code_number l.answer.code) (sym q)))
 
-  pub took_refused : (code_number code ≡ 0 → ⊥) → (step_of s w ≡ refused code) × (x ≡ s)
-  took_refused n = go (step_of s w) k
+  pub took_refused : (code : Code) → code ≢ Done → returned code 0 x ≡ answered s (step_of s w) → (step_of s w ≡ refused code) × (x ≡ s)
+  took_refused code n k = go (step_of s w) k
     where
       go : (o : Out Simulation) → returned code 0 x ≡ answered s o → (o ≡ refused code) × (x ≡ s)
-      go (done y) q = absurd (n (ap (λ (l : Returned Simulation). code_number l.answer.code) q))
+      go (done y) q = absurd (n (ap (λ (l : Returned Simulation). l.answer.code) q))
       go (refused c) q =
           (ap refused (sym (ap (λ (l : Returned Simulation). l.answer.code) q)), ap (λ (l : Returned Simulation). l.after) q)
 

@@ -3,6 +3,4 @@ pub mod CheckOrder
 pub mod Cursors
 pub mod Kept
 pub mod MemoryForms
-pub mod RegisterRecords
-pub mod StoreRecords
 pub mod Taking

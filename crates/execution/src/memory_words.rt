@@ -1,62 +1,65 @@
 // LDG and the stores. Each is judged, recorded and carried out in one pass; nothing is written before the last refusal is excluded.
-ghost use Rattle.std.specs.Prelude.{◌≡◌, ℕ, ◌+◌, ◌*◌, ◌^◌, ◌<◌, ◌≤◌, true, List, length, if◌then◌else◌, slice_index};
+ghost use Rattle.std.specs.Prelude.{◌≡◌, ◌+◌, ◌*◌, ◌%◌, ◌^◌, ◌<◌, ◌≤◌, true, length, if◌then◌else◌, ◌==◌, slice_index};
 ghost use Rattle.std.proofs.lemmas.List.Edits.{sets};
 ghost use Rattle.bits.specs.Fields.{bits_at};
-ghost use Rattle.isa.specs.declared.Decoded.TheVariants.{Is};
 ghost use Rattle.isa.specs.Decoding.{decode_of, ldg_at, stgp_at, tag_store_at};
-ghost use Rattle.isa.specs.Inside.DecodingBranches.{mode_of};
 ghost use Rattle.memory.specs.Sizes.{sizes_ok};
-ghost use Rattle.memory.specs.Stores.{pair_bytes};
-ghost use Rattle.machine.specs.declared.Settings.{Settings};
-ghost use Rattle.machine.specs.State.{state_of};
-ghost use Rattle.instructions.specs.Inside.Effects.{new_bytes, new_tags, pair};
+ghost use Rattle.machine.specs.Loans.{SameLoans};
+ghost use Rattle.instructions.specs.Inside.Effects.{new_bytes, new_tags, writes};
 ghost use Rattle.history.specs.Recording.{entry_for, old_word};
-ghost use Rattle.history.specs.Records.{words_of};
-ghost use Rattle.history.specs.Ring.{pushed};
-ghost use Rattle.history.specs.Inside.Slots.{history_of};
-ghost use Rattle.history.specs.Inside.StatusWords.{status_in};
-ghost use Rattle.execution.specs.Inside.Taking.{Ready, Took, decoded_taken, gathered, op_in, store_taken, tag_store_op, zeroed_if};
+ghost use Rattle.execution.specs.Inside.Taking.{Took, change_in, decoded_taken, loaded_in, op_in, recorded, state_in, store_taken, zeroed_if};
+ghost use Rattle.execution.specs.Simulation.{standing, well_formed};
 
-use super::{Taken, register_words};
-use instructions::accesses::Placed;
+use super::register_words;
+use history::Entry;
 use instructions::{accesses, tag_load};
-use isa::decoder;
-use machine::{Code, Cursor, Settings, register_file};
+use isa::{Mode, decoder};
+use machine::{Code, Setup};
 
-// LDG.
-fn ldg(
-    x: &mut [u64; 32],
-    settings: Settings,
-    status: u64,
-    cursor: Cursor,
-    w: u64,
-    tags: &[u8],
-    history: &mut [u64],
-) -> Taken
-    requires tags_value { sizes_ok settings.base (16 * length tags.now) (length tags.now) ≡ true }
-    requires ready { Ready history.old cursor status }
-    ensures { (bytes : List ℕ) →
-        let before = gathered settings x.old status bytes tags.now history.old cursor in
-        Took result before (decoded_taken (Is (ldg_at w)) before)
-        (λ status cursor. gathered settings x.new status bytes tags.now history.new cursor) }
+// What becomes of the data of a store's granules.
+#[derive(Clone, Copy)]
+enum DataChange {
+    Kept,
+    Zeroed,
+    Pair(u64, u64),
+}
+
+// A store: its mode, base register and amount, how many granules it names, their tag, and what becomes of their data.
+#[derive(Clone, Copy)]
+struct Store {
+    mode: Mode,
+    n: u64,
+    amount: u64,
+    granules: usize,
+    tag: u8,
+    change: DataChange,
+}
+
+// The value that LDG gives its register, or the refusal.
+fn loaded(setup: &Setup<'_>, w: u64) -> Result<u64, Code>
+    requires { sizes_ok setup.now.machine.settings.base (16 * length setup.now.tags.now) (length setup.now.tags.now) ≡ true }
+    ensures { result ≡ loaded_in w (state_in setup.now) }
 {
     let t = bits::field(w, 0, 5);
     let n = bits::field(w, 5, 5);
     let amount = decoder::signed(bits::field(w, 12, 9), 256);
-    let rn = register_file::x_or_sp(&*x, n);
-    let placed = accesses::place_load(settings, tags.len(), n, rn, amount);
-    match placed {
-        Placed::First(i) => {
-            let tag = tag_load::load(settings, tags, i);
-            let v = tag::with_tag(register_file::x_or_zero(&*x, t), tag);
-            register_words::set_or_drop(x, status, cursor, t, v, status, history)
-        },
-        Placed::Nowhere(code) => Taken {
-            code: code,
-            status: status,
-            cursor: cursor,
-        },
-    }
+    let settings = setup.machine.settings;
+    let rn = setup.machine.registers.x_or_sp(n);
+    let i = accesses::place_load(settings, setup.tags.len(), n, rn, amount)?;
+    let tag = tag_load::load(settings, setup.tags, i);
+    Ok(tag::with_tag(setup.machine.registers.x_or_zero(t), tag))
+}
+
+// LDG.
+fn ldg(setup: &mut Setup<'_>, w: u64, history: &mut [u64]) -> Result<(), Code>
+    requires { well_formed (standing setup.old history.old) ≡ true }
+    ensures loans { SameLoans setup.old setup.new }
+    ensures taken { let after = standing setup.new history.new in
+        Took result (decoded_taken (Some (ldg_at w))) (standing setup.old history.old) after }
+{
+    let v = loaded(setup, w)?;
+    register_words::set(setup, machine::or_none(bits::field(w, 0, 5)), v, history);
+    Ok(())
 }
 
 // A word of old data, 0 where it is not in use.
@@ -65,9 +68,10 @@ fn old_word(bytes: &[u8], at: usize, used: bool) -> u64
     ensures { result ≡ old_word used bytes.now at }
 {
     if used {
-        return bits::load_word(&bytes[at..]);
+        bits::load_word(&bytes[at..])
+    } else {
+        0
     }
-    0
 }
 
 // The old tag byte of a granule, 0 where it is not in use.
@@ -75,73 +79,72 @@ fn old_tag(tags: &[u8], i: usize, used: bool) -> u8
     requires { used ≡ true → i < length tags.now }
     ensures { result ≡ (if used then slice_index tags.now i else 0) }
 {
-    if used {
-        return tags[i];
-    }
-    0
+    if used { tags[i] } else { 0 }
 }
 
-fn one_if(set: bool) -> u64
-    ensures value { result ≡ (if set then 1 else 0) }
-    ensures upper_bound { result < 2 }
+// What a store is about to change: a register and granules, with their data or without.
+fn entry_for(setup: &Setup<'_>, register: u64, granules: usize, first: usize, saves: bool) -> Entry
+    requires le_granules { 1 ≤ granules }
+    requires granules_bound { granules ≤ 2 }
+    requires granules_in_bounds { first + granules ≤ length setup.now.tags.now }
+    requires bytes_len { length setup.now.bytes.now ≡ 16 * length setup.now.tags.now }
+    ensures { result ≡ entry_for register granules first saves (state_in setup.now) }
 {
-    if set { 1 } else { 0 }
+    let two = 1 < granules;
+    let at = 16 * first;
+    let second = old_tag(setup.tags, first + 1, two);
+    Entry {
+        register,
+        granules,
+        saved: saves,
+        tags: [setup.tags[first], second],
+        status: setup.machine.registers.status,
+        value: setup.machine.registers.x_or_sp(register),
+        first,
+        data: [
+            old_word(setup.bytes, at, saves),
+            old_word(setup.bytes, at + 8, saves),
+            old_word(setup.bytes, at + 16, saves && two),
+            old_word(setup.bytes, at + 24, saves && two),
+        ],
+    }
 }
 
-// Records the register that a store writes back, and its granules, with their data or without.
-fn record_store(
-    x: &[u64; 32],
-    status: u64,
-    cursor: Cursor,
+// Records a register and granules, with their data or without.
+fn record(
+    setup: &mut Setup<'_>,
     register: u64,
-    first: usize,
     granules: usize,
+    first: usize,
     saves: bool,
-    bytes: &[u8],
-    tags: &[u8],
     history: &mut [u64],
-) -> Cursor
+)
     requires register_bound { register ≤ 32 }
     requires le_granules { 1 ≤ granules }
     requires granules_bound { granules ≤ 2 }
-    requires granules_in_bounds { first + granules ≤ length tags.now }
-    requires bytes_len { length bytes.now ≡ 16 * length tags.now }
-    requires ready { Ready history.old cursor status }
-    ensures { (settings : Settings) →
-        let state = state_of settings x.now (status_in status) bytes.now tags.now in
-        history_of history.new result
-        ≡ pushed (words_of (entry_for register granules first saves state)) (history_of history.old cursor) }
+    requires granules_in_bounds { first + granules ≤ length setup.old.tags.now }
+    requires formed { well_formed (standing setup.old history.old) ≡ true }
+    ensures loans { SameLoans setup.old setup.new }
+    ensures taken { standing setup.new history.new ≡ recorded register granules first saves (standing setup.old history.old) }
 {
     if history.len() < 8 {
-        return cursor;
+        return;
     }
-    let two = 1 < granules;
-    let more = saves & two;
-    let at = 16 * first;
-    let a = old_word(bytes, at, saves);
-    let b = old_word(bytes, at + 8, saves);
-    let c = old_word(bytes, at + 16, more);
-    let d = old_word(bytes, at + 24, more);
-    let tag = tags[first];
-    let second = old_tag(tags, first + 1, two);
-    let saved = one_if(saves);
-    let old = register_file::x_or_sp(x, register);
-    let low = register
-        + 0x100 * (granules as u64)
-        + 0x400 * saved
-        + 0x1_0000 * (tag as u64)
-        + 0x100_0000 * (second as u64);
-    history::push(history, cursor, low + status, old, first as u64, a, b, c, d)
+    let entry = entry_for(setup, register, granules, first, saves);
+    history::push(history, &mut setup.machine.cursor, entry.words());
 }
 
-// Zeroes the data of granules from first on, or leaves it.
-fn zero_if(bytes: &mut [u8], first: usize, granules: usize, zeroes: bool)
-    requires { 16 * (first + granules) ≤ length bytes.old }
-    ensures { bytes.new ≡ sets bytes.old (16 * first) (new_bytes (zeroed_if zeroes) granules) }
+// Changes the data of granules from first on.
+fn change_data(bytes: &mut [u8], first: usize, granules: usize, change: DataChange)
+    requires le_granules { 1 ≤ granules }
+    requires granules_in_bounds { 16 * (first + granules) ≤ length bytes.old }
+    ensures { bytes.new ≡ sets bytes.old (16 * first) (new_bytes (change_in change) granules) }
 {
-    if zeroes {
-        let at = 16 * first;
-        memory::zero(&mut bytes[at..], granules);
+    let at = 16 * first;
+    match change {
+        DataChange::Kept => {},
+        DataChange::Zeroed => memory::zero(&mut bytes[at..], granules),
+        DataChange::Pair(low, high) => memory::store_pair(&mut bytes[at..], low, high),
     }
 }
 
@@ -157,275 +160,124 @@ fn tag_if(tags: &mut [u8], first: usize, granules: usize, tagged: bool, tag: u8)
     }
 }
 
-// Records a tag store at granules that are inside, and carries it out.
-fn store(
-    x: &mut [u64; 32],
-    settings: Settings,
-    status: u64,
-    cursor: Cursor,
-    register: u64,
-    value: u64,
-    first: usize,
-    granules: usize,
-    tag: u8,
-    zeroes: bool,
-    bytes: &mut [u8],
-    tags: &mut [u8],
-    history: &mut [u64],
-) -> Taken
-    requires register_bound { register ≤ 32 }
-    requires le_granules { 1 ≤ granules }
-    requires granules_bound { granules ≤ 2 }
-    requires granules_in_bounds { first + granules ≤ length tags.old }
-    requires bytes_len { length bytes.old ≡ 16 * length tags.old }
-    requires ready { Ready history.old cursor status }
-    ensures { let before = gathered settings x.old status bytes.old tags.old history.old cursor in
-        Took result before (store_taken register value first granules tag (zeroed_if zeroes) before)
-        (λ status cursor. gathered settings x.new status bytes.new tags.new history.new cursor) }
+// Whether data is written.
+fn writes(change: DataChange) -> bool
+    ensures { result ≡ writes (change_in change) }
 {
-    let moved = record_store(
-        &*x,
-        status,
-        cursor,
-        register,
-        first,
-        granules,
-        zeroes,
-        &bytes[..],
-        &tags[..],
-        history,
-    );
-    zero_if(bytes, first, granules, zeroes);
-    tag_if(tags, first, granules, settings.access, tag);
-    register_file::write(x, register, value);
-    Taken {
-        code: Code::Done,
-        status: status,
-        cursor: moved,
+    match change {
+        DataChange::Kept => false,
+        DataChange::Zeroed | DataChange::Pair(_, _) => true,
     }
 }
 
-// STG, STZG, ST2G, STZ2G: of so many granules, zeroing their data or not, in the mode of two bits.
-fn tag_store(
-    x: &mut [u64; 32],
-    settings: Settings,
-    status: u64,
-    cursor: Cursor,
-    granules: usize,
-    zeroes: bool,
-    mode: u64,
-    w: u64,
-    bytes: &mut [u8],
-    tags: &mut [u8],
-    history: &mut [u64],
-) -> Taken
-    requires le_granules { 1 ≤ granules }
-    requires granules_bound { granules ≤ 2 }
-    requires le_mode { 1 ≤ mode }
-    requires mode_bound { mode ≤ 3 }
-    requires tags_value { sizes_ok settings.base (16 * length tags.old) (length tags.old) ≡ true }
-    requires bytes_len { length bytes.old ≡ 16 * length tags.old }
-    requires ready { Ready history.old cursor status }
-    ensures { let before = gathered settings x.old status bytes.old tags.old history.old cursor in
-        Took result before (decoded_taken (Is (tag_store_at (tag_store_op granules zeroes) (mode_of mode) w)) before)
-        (λ status cursor. gathered settings x.new status bytes.new tags.new history.new cursor) }
+// Judges a store, records it and carries it out.
+fn carry_out(setup: &mut Setup<'_>, e: Store, history: &mut [u64]) -> Result<(), Code>
+    requires register_bound { e.n < 32 }
+    requires amount_whole { e.amount % 16 ≡ 0 }
+    requires le_granules { 1 ≤ e.granules }
+    requires granules_bound { e.granules ≤ 2 }
+    requires formed { well_formed (standing setup.old history.old) ≡ true }
+    ensures loans { SameLoans setup.old setup.new }
+    ensures taken { let after = standing setup.new history.new in
+        Took result (store_taken e) (standing setup.old history.old) after }
+{
+    let settings = setup.machine.settings;
+    let rn = setup.machine.registers.x_or_sp(e.n);
+    let address = accesses::address_of(e.mode, rn, e.amount);
+    let first = accesses::place(settings, setup.tags.len(), e.n, rn, address, e.granules)?;
+    let register = accesses::writeback_to(e.mode, e.n);
+    record(
+        setup,
+        register,
+        e.granules,
+        first,
+        writes(e.change),
+        history,
+    );
+    change_data(setup.bytes, first, e.granules, e.change);
+    tag_if(setup.tags, first, e.granules, settings.access, e.tag);
+    let value = rn.wrapping_add(e.amount);
+    setup.machine.registers.write(register, value);
+    Ok(())
+}
+
+fn zeroed_if(zeroes: bool) -> DataChange
+    ensures { change_in result ≡ zeroed_if zeroes }
+{
+    if zeroes {
+        DataChange::Zeroed
+    } else {
+        DataChange::Kept
+    }
+}
+
+// STG, STZG, ST2G, STZ2G: two granules if bit 23 is one, zeroed if bit 22 is.
+fn tag_store(setup: &mut Setup<'_>, mode: Mode, w: u64, history: &mut [u64]) -> Result<(), Code>
+    requires { well_formed (standing setup.old history.old) ≡ true }
+    ensures loans { SameLoans setup.old setup.new }
+    ensures taken { let after = standing setup.new history.new in
+        Took result (decoded_taken (Some (tag_store_at (op_in w) mode w))) (standing setup.old history.old) after }
 {
     let t = bits::field(w, 0, 5);
-    let n = bits::field(w, 5, 5);
-    let amount = decoder::signed(bits::field(w, 12, 9), 256);
-    let rn = register_file::x_or_sp(&*x, n);
-    let tag = tag::tag_of(register_file::x_or_sp(&*x, t));
-    let address = accesses::address_of(mode, rn, amount);
-    let register = accesses::writeback_to(mode, n);
-    let value = std::num::wrapping_add_u64(rn, amount);
-    let placed = accesses::place(settings, tags.len(), n, rn, address, granules);
-    match placed {
-        Placed::First(first) => store(
-            x, settings, status, cursor, register, value, first, granules, tag, zeroes, bytes,
-            tags, history,
-        ),
-        Placed::Nowhere(code) => Taken {
-            code: code,
-            status: status,
-            cursor: cursor,
-        },
-    }
+    let e = Store {
+        mode,
+        n: bits::field(w, 5, 5),
+        amount: decoder::signed(bits::field(w, 12, 9), 256),
+        granules: 1 + bits::field(w, 23, 1) as usize,
+        tag: tag::tag_of(setup.machine.registers.x_or_sp(t)),
+        change: zeroed_if(bits::field(w, 22, 1) == 1),
+    };
+    carry_out(setup, e, history)
 }
 
-// The tag stores, by bits 23 and 22: two granules or one, zeroed or not.
-fn tag_stores(
-    x: &mut [u64; 32],
-    settings: Settings,
-    status: u64,
-    cursor: Cursor,
-    mode: u64,
-    w: u64,
-    bytes: &mut [u8],
-    tags: &mut [u8],
-    history: &mut [u64],
-) -> Taken
-    requires le_mode { 1 ≤ mode }
-    requires mode_bound { mode ≤ 3 }
-    requires tags_value { sizes_ok settings.base (16 * length tags.old) (length tags.old) ≡ true }
-    requires bytes_len { length bytes.old ≡ 16 * length tags.old }
-    requires ready { Ready history.old cursor status }
-    ensures { let before = gathered settings x.old status bytes.old tags.old history.old cursor in
-        Took result before (decoded_taken (Is (tag_store_at (op_in w) (mode_of mode) w)) before)
-        (λ status cursor. gathered settings x.new status bytes.new tags.new history.new cursor) }
-{
-    if bits::field(w, 23, 1) == 1 {
-        if bits::field(w, 22, 1) == 1 {
-            return tag_store(
-                x, settings, status, cursor, 2, true, mode, w, bytes, tags, history,
-            );
-        }
-        return tag_store(
-            x, settings, status, cursor, 2, false, mode, w, bytes, tags, history,
-        );
-    }
-    if bits::field(w, 22, 1) == 1 {
-        return tag_store(
-            x, settings, status, cursor, 1, true, mode, w, bytes, tags, history,
-        );
-    }
-    tag_store(
-        x, settings, status, cursor, 1, false, mode, w, bytes, tags, history,
-    )
-}
-
-// LDG and the tag stores, whose bits 31:24 are known: bit 21 is one, and bits 11:10 are the mode or, for LDG, zero.
-pub(crate) fn memory_tags(
-    x: &mut [u64; 32],
-    settings: Settings,
-    status: u64,
-    cursor: Cursor,
-    w: u64,
-    bytes: &mut [u8],
-    tags: &mut [u8],
-    history: &mut [u64],
-) -> Taken
-    requires w_bound { w < 2 ^ 32 }
-    requires w_value { bits_at w 24 8 ≡ 0xD9 }
-    requires tags_value { sizes_ok settings.base (16 * length tags.old) (length tags.old) ≡ true }
-    requires bytes_len { length bytes.old ≡ 16 * length tags.old }
-    requires ready { Ready history.old cursor status }
-    ensures { let before = gathered settings x.old status bytes.old tags.old history.old cursor in
-        Took result before (decoded_taken (decode_of w) before)
-        (λ status cursor. gathered settings x.new status bytes.new tags.new history.new cursor) }
-{
-    if bits::field(w, 21, 1) == 1 {
-        let mode = bits::field(w, 10, 2);
-        if mode != 0 {
-            return tag_stores(x, settings, status, cursor, mode, w, bytes, tags, history);
-        }
-        if bits::field(w, 22, 2) == 1 {
-            return ldg(x, settings, status, cursor, w, &tags[..], history);
-        }
-    }
-    Taken {
-        code: Code::Undefined,
-        status: status,
-        cursor: cursor,
-    }
-}
-
-// Stores two words in a granule.
-fn put_pair(bytes: &mut [u8], first: usize, low: u64, high: u64)
-    requires { 16 * (first + 1) ≤ length bytes.old }
-    ensures { bytes.new ≡ sets bytes.old (16 * first) (pair_bytes low high) }
-{
-    let at = 16 * first;
-    memory::store_pair(&mut bytes[at..], low, high);
-}
-
-// Records a pair store at a granule that is inside, and carries it out.
-fn store_pair(
-    x: &mut [u64; 32],
-    settings: Settings,
-    status: u64,
-    cursor: Cursor,
-    register: u64,
-    value: u64,
-    first: usize,
-    tag: u8,
-    low: u64,
-    high: u64,
-    bytes: &mut [u8],
-    tags: &mut [u8],
-    history: &mut [u64],
-) -> Taken
-    requires register_bound { register ≤ 32 }
-    requires first_in_bounds { first + 1 ≤ length tags.old }
-    requires bytes_len { length bytes.old ≡ 16 * length tags.old }
-    requires ready { Ready history.old cursor status }
-    ensures { let before = gathered settings x.old status bytes.old tags.old history.old cursor in
-        Took result before (store_taken register value first 1 tag (pair low high) before)
-        (λ status cursor. gathered settings x.new status bytes.new tags.new history.new cursor) }
-{
-    let moved = record_store(
-        &*x,
-        status,
-        cursor,
-        register,
-        first,
-        1,
-        true,
-        &bytes[..],
-        &tags[..],
-        history,
-    );
-    put_pair(bytes, first, low, high);
-    tag_if(tags, first, 1, settings.access, tag);
-    register_file::write(x, register, value);
-    Taken {
-        code: Code::Done,
-        status: status,
-        cursor: moved,
-    }
-}
-
-// STGP, in the mode of two bits. The tag is that of the address, not of the base register.
+// STGP. The tag is that of the address, not of the base register.
 pub(crate) fn stgp(
-    x: &mut [u64; 32],
-    settings: Settings,
-    status: u64,
-    cursor: Cursor,
-    mode: u64,
+    setup: &mut Setup<'_>,
+    mode: Mode,
     w: u64,
-    bytes: &mut [u8],
-    tags: &mut [u8],
     history: &mut [u64],
-) -> Taken
-    requires le_mode { 1 ≤ mode }
-    requires mode_bound { mode ≤ 3 }
-    requires tags_value { sizes_ok settings.base (16 * length tags.old) (length tags.old) ≡ true }
-    requires bytes_len { length bytes.old ≡ 16 * length tags.old }
-    requires ready { Ready history.old cursor status }
-    ensures { let before = gathered settings x.old status bytes.old tags.old history.old cursor in
-        Took result before (decoded_taken (Is (stgp_at (mode_of mode) w)) before)
-        (λ status cursor. gathered settings x.new status bytes.new tags.new history.new cursor) }
+) -> Result<(), Code>
+    requires { well_formed (standing setup.old history.old) ≡ true }
+    ensures loans { SameLoans setup.old setup.new }
+    ensures taken { let after = standing setup.new history.new in
+        Took result (decoded_taken (Some (stgp_at mode w))) (standing setup.old history.old) after }
 {
     let t = bits::field(w, 0, 5);
     let t2 = bits::field(w, 10, 5);
     let n = bits::field(w, 5, 5);
     let amount = decoder::signed(bits::field(w, 15, 7), 64);
-    let rn = register_file::x_or_sp(&*x, n);
-    let low = register_file::x_or_zero(&*x, t);
-    let high = register_file::x_or_zero(&*x, t2);
-    let address = accesses::address_of(mode, rn, amount);
-    let tag = tag::tag_of(address);
-    let register = accesses::writeback_to(mode, n);
-    let value = std::num::wrapping_add_u64(rn, amount);
-    let placed = accesses::place(settings, tags.len(), n, rn, address, 1);
-    match placed {
-        Placed::First(first) => store_pair(
-            x, settings, status, cursor, register, value, first, tag, low, high, bytes, tags,
-            history,
-        ),
-        Placed::Nowhere(code) => Taken {
-            code: code,
-            status: status,
-            cursor: cursor,
-        },
+    let registers = &setup.machine.registers;
+    let address = accesses::address_of(mode, registers.x_or_sp(n), amount);
+    let low = registers.x_or_zero(t);
+    let high = registers.x_or_zero(t2);
+    let e = Store {
+        mode,
+        n,
+        amount,
+        granules: 1,
+        tag: tag::tag_of(address),
+        change: DataChange::Pair(low, high),
+    };
+    carry_out(setup, e, history)
+}
+
+// LDG and the tag stores, whose bits 31:24 are known: bit 21 is one, and bits 11:10 are the mode or, for LDG, zero.
+pub(crate) fn memory_tags(setup: &mut Setup<'_>, w: u64, history: &mut [u64]) -> Result<(), Code>
+    requires w_bound { w < 2 ^ 32 }
+    requires w_value { bits_at w 24 8 ≡ 0xD9 }
+    requires formed { well_formed (standing setup.old history.old) ≡ true }
+    ensures loans { SameLoans setup.old setup.new }
+    ensures taken { let after = standing setup.new history.new in
+        Took result (decoded_taken (decode_of w)) (standing setup.old history.old) after }
+{
+    let mode = bits::field(w, 10, 2);
+    if bits::field(w, 21, 1) == 0 {
+        Err(Code::Undefined)
+    } else if mode != 0 {
+        tag_store(setup, decoder::mode_of(mode), w, history)
+    } else if bits::field(w, 22, 2) == 1 {
+        ldg(setup, w, history)
+    } else {
+        Err(Code::Undefined)
     }
 }

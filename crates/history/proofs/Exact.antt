@@ -1,7 +1,7 @@
 -- BADRECORD exactly, as specs/WellFormedRecords states it: the words accepted are those of well-formed records. Assumes nothing.
 use Prim.Native.Nat.{ℕ, zero, suc, ◌+◌, ◌*◌, ◌^◌, ◌≤◌, ◌<◌}
 use mathlib.Core.Path.{◌≡◌, refl, sym, ap, ◌∙◌}
-use mathlib.Core.Bool.{Bool, true, false, ◌&&◌, ◌||◌}
+use mathlib.Core.Bool.{Bool, true, false, cond, ◌&&◌, ◌||◌}
 use mathlib.Core.List.{List, [], ◌∷◌}
 use native.Mathlib.Omega.{arith}
 use lib.Dec.{eqb, ltb}
@@ -9,11 +9,11 @@ use lib.ListN.{length, get_or}
 use borrow.Author.Tests.{eqb-true, eqb-false, le-ltb, ne_eqb}
 use Rattle.bits.proofs.Fields.{bits, lows_up, lows_ends}
 use Rattle.machine.specs.declared.Status.{Status}
-use Rattle.machine.specs.State.{fresh_status, with_nzcv, with_rgsr, with_seed}
-use Rattle.history.specs.Records.{Entry, words_of, entry_in}
+use Rattle.history.specs.declared.Entry.{Entry}
+use Rattle.history.specs.Records.{tag_at, data_at, word0, words_of, entry_in}
 use Rattle.history.specs.BadRecords.{not_zero, out_of_range, value_not_zero, tags_not_zero, data_not_zero, data_of_none, beyond, gap_not_zero, malformed}
 use Rattle.history.specs.WellFormedRecords.{OldRegister, register, no_register, OldGranules, no_granules, one, one_saved, two, two_saved, Held, RegisterFits, GranulesFit, WellFormed, register_number, register_value, places_of, with_granules, entry_held, record_words, EightWords, ExactRecords}
-use Rattle.history.proofs.Packing.{Fits, entry_back, gaps_zero}
+use Rattle.history.proofs.Packing.{Fits, Filled, entry_back, gaps_zero}
 use Rattle.history.proofs.Rules.{Rules, rules, gaps}
 
 -- a well-formed record is accepted
@@ -31,6 +31,13 @@ module _ (g n value : ℕ) (status : Status) where
   places_fit (two first tag second) f hn hz hr hs = omega arith
   places_fit (two_saved first tag second a b c d) f hn hz hr hs = omega arith
 
+  places_filled : (o : OldGranules) → Filled (with_granules n value status o)
+  places_filled no_granules = (refl, refl)
+  places_filled (one first tag) = (refl, refl)
+  places_filled (one_saved first tag a b) = (refl, refl)
+  places_filled (two first tag second) = (refl, refl)
+  places_filled (two_saved first tag second a b c d) = (refl, refl)
+
   places_pass : (o : OldGranules) → GranulesFit g o → ltb 32 n ≡ false → (eqb n 32 && not_zero value) ≡ false
       → let e = with_granules n value status o in
       (out_of_range e || (value_not_zero e || (tags_not_zero e || (data_not_zero e || (data_of_none e || beyond g e))))) ≡ false
@@ -47,7 +54,7 @@ accepts g h f =
     let v = register_value h.register in
     let p = register_passes h.register f.register in
     let fits = places_fit g n v h.status h.granules f.granules p.0 f.nzcv f.rgsr f.seed in
-    rw (entry_back (entry_held h) fits, gaps_zero (entry_held h) fits)
+    rw (entry_back (entry_held h) (places_filled g n v h.status h.granules) fits, gaps_zero (entry_held h) fits)
     (places_pass g n v h.status h.granules f.granules (le-ltb 32 n p.0) p.1)
 
 -- the sum of the fields of word 0
@@ -82,12 +89,19 @@ unfolding elements
 by_elements [] = refl
 by_elements (a ∷ l) = ap (λ (t : List ℕ). a ∷ t) (by_elements l)
 
+-- a bit, from whether it is set
+one_bit : (n : ℕ) → n < 2 → cond (eqb n 1) 1 0 ≡ n
+one_bit zero h = refl
+one_bit (suc zero) h = refl
+one_bit (suc (suc n)) h = absurd (omega arith)
+
 -- eight words without gaps are those of their entry
 words_back : (r : List ℕ) → EightWords r → gap_not_zero r ≡ false → r ≡ words_of (entry_in r)
 unfolding words_of entry_in bits elements
 words_back r h z =
     let q = gaps r z in
-    let sum = whole (get_or r 0 0) (h.small 0) q.0 q.1 q.2 in
+    let saved = one_bit (bits (get_or r 0 0) 10 1) (omega arith) in
+    let sum : get_or r 0 0 ≡ word0 (entry_in r) = rw saved (whole (get_or r 0 0) (h.small 0) q.0 q.1 q.2) in
     let apart : r ≡ elements (λ i. get_or r i 0) 8 = sym (by_elements r) ∙ ap (elements (λ i. get_or r i 0)) h.eight in
     apart ∙ λ i. sum i ∷ get_or r 1 0 ∷ get_or r 2 0 ∷ get_or r 3 0 ∷ get_or r 4 0 ∷ get_or r 5 0 ∷ get_or r 6 0 ∷ q.3 i ∷ []
 
@@ -105,26 +119,41 @@ old_register n value hn hv z = go (eqb n 32) refl
     go true e = (no_register, tt, sym (eqb-true n 32 e), sym (z (eqb-true n 32 e)))
     go false e = (register n value, (omega (arith, eqb-false n 32 e), hv), refl, refl)
 
-abbrev status_of : Entry → Status
-status_of e = with_nzcv e.nzcv (with_rgsr e.rgsr (with_seed e.seed fresh_status))
-
-old_granules : (g : ℕ) (e : Entry) → Rules g e → Fits e → e.a < 2 ^ 64 → e.b < 2 ^ 64 → e.c < 2 ^ 64 → e.d < 2 ^ 64
-    → (o : OldGranules) × GranulesFit g o × (with_granules e.register e.value (status_of e) o ≡ e)
-old_granules g e k f ha hb hc hd = go e.granules e.saved refl refl
+old_granules : (g : ℕ) (e : Entry) → Rules g e → Fits e → ((i : ℕ) → data_at e i < 2 ^ 64)
+    → (o : OldGranules) × GranulesFit g o
+    × (with_granules e.register e.value e.status o
+    ≡ places_of e.register e.value e.status e.granules e.saved e.first (tag_at e 0 ∷ tag_at e 1 ∷ [])
+    (data_at e 0 ∷ data_at e 1 ∷ data_at e 2 ∷ data_at e 3 ∷ []))
+old_granules g e k f small = go e.granules e.saved refl refl
   where
-    go : (n s : ℕ) → e.granules ≡ n → e.saved ≡ s
+    go : (n : ℕ) (s : Bool) → e.granules ≡ n → e.saved ≡ s
         → (o : OldGranules) × GranulesFit g o
-        × (with_granules e.register e.value (status_of e) o
-        ≡ places_of e.register e.value (status_of e) e.granules e.saved e.tag e.second e.first e.a e.b e.c e.d)
-    go zero zero p q = let z = k.none p in let u = k.unsaved q in (no_granules, tt, cc)
-    go zero (suc s) p q = absurd (k.saved (omega arith) p)
-    go (suc zero) zero p q = let z = k.one p in let u = k.unsaved q in (one e.first e.tag, omega arith, cc)
-    go (suc zero) (suc zero) p q = let z = k.one p in (one_saved e.first e.tag e.a e.b, omega arith, cc)
-    go (suc (suc zero)) zero p q = let u = k.unsaved q in (two e.first e.tag e.second, omega arith, cc)
-    go (suc (suc zero)) (suc zero) p q = (two_saved e.first e.tag e.second e.a e.b e.c e.d, omega arith, cc)
-    go (suc zero) (suc (suc s)) p q = absurd (omega arith)
-    go (suc (suc zero)) (suc (suc s)) p q = absurd (omega arith)
+        × (with_granules e.register e.value e.status o
+        ≡ places_of e.register e.value e.status e.granules e.saved e.first (tag_at e 0 ∷ tag_at e 1 ∷ [])
+        (data_at e 0 ∷ data_at e 1 ∷ data_at e 2 ∷ data_at e 3 ∷ []))
+    go zero false p q = let z = k.none p in let u = k.unsaved q in (no_granules, tt, cc)
+    go zero true p q = absurd (k.saved q p)
+    go (suc zero) false p q = let z = k.one p in let u = k.unsaved q in (one e.first (tag_at e 0), omega arith, cc)
+    go (suc zero) true p q =
+        let z = k.one p in
+        (one_saved e.first (tag_at e 0) (data_at e 0) (data_at e 1), omega (arith, small 0, small 1), cc)
+    go (suc (suc zero)) false p q =
+        let u = k.unsaved q in
+        (two e.first (tag_at e 0) (tag_at e 1), omega arith, cc)
+    go (suc (suc zero)) true p q = (
+      two_saved e.first (tag_at e 0) (tag_at e 1) (data_at e 0) (data_at e 1) (data_at e 2) (data_at e 3),
+      omega (arith, small 0, small 1, small 2, small 3),
+      cc,
+    )
     go (suc (suc (suc n))) s p q = absurd (omega arith)
+
+data_small : (r : List ℕ) → EightWords r → (i : ℕ) → data_at (entry_in r) i < 2 ^ 64
+unfolding entry_in
+data_small r h zero = h.small 3
+data_small r h (suc zero) = h.small 4
+data_small r h (suc (suc zero)) = h.small 5
+data_small r h (suc (suc (suc zero))) = h.small 6
+data_small r h (suc (suc (suc (suc i)))) = omega arith
 
 only : (g : ℕ) (r : List ℕ) → EightWords r → malformed g r ≡ false → (h : Held) × WellFormed g h × (r ≡ record_words h)
 unfolding record_words entry_in
@@ -134,9 +163,9 @@ only g r h m =
     let k = p.1 in
     let f = entry_fits g r k in
     let x = old_register e.register e.value k.register (h.small 1) k.value in
-    let o = old_granules g e k f (h.small 3) (h.small 4) (h.small 5) (h.small 6) in
-    let same : with_granules (register_number x.0) (register_value x.0) (status_of e) o.0 ≡ e = rw (x.2, x.3) o.2 in (
-      record { register = x.0; granules = o.0; status = status_of e },
+    let o = old_granules g e k f (data_small r h) in
+    let same : with_granules (register_number x.0) (register_value x.0) e.status o.0 ≡ e = rw (x.2, x.3) o.2 in (
+      record { register = x.0; granules = o.0; status = e.status },
       record { register = x.1; granules = o.1; nzcv = f.nzcv; rgsr = f.rgsr; seed = f.seed },
       words_back r h p.0 ∙ ap words_of (sym same),
     )

@@ -6,4 +6,3 @@ pub mod Restored
 pub mod Room
 pub mod Rules
 pub mod Slots
-pub mod StatusWords

@@ -5,6 +5,7 @@ use mathlib.Core.Bool.{Bool, true, false, cond, ◌&&◌, ◌||◌, false≢true
 use mathlib.Core.List.{List, []}
 use mathlib.Core.Path.{◌≡◌, refl, ap, sym, ◌∙◌}
 use native.Mathlib.Omega.{arith}
+use Rattle.std.proofs.Common.{Option, Some, None}
 use lib.Dec.{eqb, ltb}
 use lib.ListN.{length, drop, get_or, set, length-replicate}
 use lib.Seq.{sets, length-sets, set-set, set-get_or}
@@ -15,8 +16,6 @@ use Rattle.isa.specs.declared.TwoSourceOp.TheVariants.{Subp, Subps, Irg, Gmi}
 use Rattle.isa.specs.declared.TagStoreOp.TheVariants.{Stg, Stzg, St2g, Stz2g}
 use Rattle.isa.specs.declared.Form.{Form}
 use Rattle.isa.specs.declared.Form.TheVariants.{AddSub, TwoSource, Ldg, TagStore, Stgp}
-use Rattle.isa.specs.declared.Decoded.{Decoded}
-use Rattle.isa.specs.declared.Decoded.TheVariants.{Is, Undefined}
 use Rattle.isa.specs.Decoding.{decode_of}
 use Rattle.isa.proofs.RoundTrip.{decoded_fits}
 use Rattle.memory.specs.Stores.{saved_bytes, saved_tags}
@@ -25,12 +24,13 @@ use Rattle.machine.specs.State.{State, state_of, Typed}
 use Rattle.machine.specs.Setup.{sound}
 use Rattle.machine.specs.Registers.{x_or_sp, written}
 use Rattle.machine.specs.Codes.{lowest, is_done}
-use Rattle.machine.proofs.Setup.{state_sized, state_status}
+use Rattle.machine.proofs.Rules.{state_sized, state_status}
 use Rattle.instructions.specs.WordOutcomes.{code_of, carried_out, word_outcome}
 use Rattle.instructions.specs.Inside.Effects.{Change, kept, zeroed, pair, Effect, new_bytes, new_tags, writes, applied, Within, form_effect}
 use Rattle.instructions.proofs.Outcomes.{form_outcome}
 use Rattle.instructions.proofs.Within.{form_within}
-use Rattle.history.specs.Records.{Entry, words_of, entry_in}
+use Rattle.history.specs.declared.Entry.{Entry}
+use Rattle.history.specs.Records.{data_at, words_of, entry_in}
 use Rattle.history.specs.BadRecords.{not_zero, value_not_zero, tags_not_zero, data_not_zero, data_of_none, malformed}
 use Rattle.history.specs.Recording.{old_word, entry_for, entry_of, record_of, restored}
 use Rattle.history.specs.Inside.Slots.{entry_on}
@@ -108,7 +108,6 @@ module _ (e : Effect) (s : State) (ok : sound s ≡ true) (typed : Typed s) (h :
       record {
         register = h.register;
         granules = h.few;
-        saved = cond_lt (writes e.change) (omega arith) (omega arith);
         tag = cond_lt (ltb 0 e.granules) (typed.tags e.first) (omega arith);
         second = cond_lt (ltb 1 e.granules) (typed.tags (e.first + 1)) (omega arith);
         nzcv = nzcv;
@@ -120,7 +119,7 @@ module _ (e : Effect) (s : State) (ok : sound s ≡ true) (typed : Typed s) (h :
   unfolding malformed entry_for
   entry_well =
       rw (
-        entry_back entry entry_fits,
+        entry_back entry (refl, refl) entry_fits,
         gaps_zero entry entry_fits,
         le-ltb 32 e.register h.register,
         le-ltb 2 e.granules h.few,
@@ -132,8 +131,9 @@ module _ (e : Effect) (s : State) (ok : sound s ≡ true) (typed : Typed s) (h :
   abbrev word : ℕ → ℕ
   word k = word_from (drop (16 * e.first + k) s.bytes)
 
-  bytes_back : cond (eqb (cond (writes e.change) 1 0) 1)
-      (sets (applied e s).bytes (16 * e.first) (saved_bytes e.granules entry.a entry.b entry.c entry.d)) (applied e s).bytes
+  bytes_back : cond (writes e.change)
+      (sets (applied e s).bytes (16 * e.first)
+      (saved_bytes e.granules (data_at entry 0) (data_at entry 1) (data_at entry 2) (data_at entry 3))) (applied e s).bytes
       ≡ s.bytes
   unfolding entry_for
   bytes_back = go (writes e.change) refl
@@ -145,7 +145,7 @@ module _ (e : Effect) (s : State) (ok : sound s ≡ true) (typed : Typed s) (h :
       second n k p q = rw (p, q)
 
       go : (saves : Bool) → writes e.change ≡ saves
-          → cond (eqb (cond saves 1 0) 1)
+          → cond saves
           (sets (applied e s).bytes (16 * e.first)
           (saved_bytes e.granules (old_word saves s.bytes (16 * e.first)) (old_word saves s.bytes (16 * e.first + 8))
           (old_word (saves && ltb 1 e.granules) s.bytes (16 * e.first + 16)) (old_word (saves && ltb 1 e.granules) s.bytes (16 * e.first + 24))))
@@ -175,11 +175,12 @@ words_eight e = refl
 
 -- the record of an effect restores what it changed
 effect_restores : (e : Effect) (s : State) → sound s ≡ true → Typed s → Within e (length s.tags) → Restores (words_of (entry_on e s)) (applied e s) s
+unfolding entry_for
 effect_restores e s ok typed h =
     record {
       wide = words_eight (entry_on e s);
       well = rw length-sets (entry_well e s ok typed h);
-      back = ap (λ (k : Entry). restored k (applied e s)) (entry_back (entry_on e s) (entry_fits e s ok typed h)) ∙ effect_undone e s ok typed h;
+      back = ap (λ (k : Entry). restored k (applied e s)) (entry_back (entry_on e s) (refl, refl) (entry_fits e s ok typed h)) ∙ effect_undone e s ok typed h;
     }
 
 -- so does that of every accepted word
@@ -188,9 +189,9 @@ pub word_undone : (w : ℕ) (s : State) → sound s ≡ true → Typed s → is_
 unfolding word_outcome lowest record_of
 word_undone w s ok typed = go (decode_of w) refl
   where
-    go : (d : Decoded) → decode_of w ≡ d → is_done (code_of true d s) ≡ true
+    go : (d : Option Form) → decode_of w ≡ d → is_done (code_of true d s) ≡ true
         → Restores (record_of d s) (cond (is_done (code_of true d s)) (carried_out d s) s) s
-    go (Is f) p k =
+    go (Some f) p k =
         rw (k, ← (form_outcome s f ok k), form_entry f s)
         (effect_restores (form_effect f s) s ok typed (form_within s ok f (decoded_fits w f p) k))
-    go Undefined p k = absurd (false≢true k)
+    go None p k = absurd (false≢true k)

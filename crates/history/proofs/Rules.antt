@@ -1,23 +1,24 @@
 -- What the rule of specs/BadRecords says of a record that it accepts, part by part. Assumes nothing.
 use Prim.Native.Nat.{ℕ, ◌+◌, ◌≤◌}
 use mathlib.Core.Path.{◌≡◌, refl, sym, ◌∙◌}
-use mathlib.Core.Bool.{Bool, true, false, ◌&&◌, ◌||◌, false≢true}
+use mathlib.Core.Bool.{Bool, true, false, not, ◌&&◌, ◌||◌, false≢true}
 use mathlib.Core.List.{List}
 use lib.Dec.{eqb, ltb}
 use lib.ListN.{get_or}
 use borrow.Author.Tests.{eqb-true, eq-eqb, ltb-false, not-false}
 use Rattle.bits.specs.Fields.{bits_at}
-use Rattle.history.specs.Records.{Entry, entry_in}
+use Rattle.history.specs.declared.Entry.{Entry}
+use Rattle.history.specs.Records.{tag_at, data_at, entry_in}
 use Rattle.history.specs.BadRecords.{not_zero, out_of_range, gap_not_zero, value_not_zero, tags_not_zero, data_not_zero, data_of_none, beyond, malformed}
 
 pub record Rules (g : ℕ) (e : Entry) : Type 0 where
   pub register : e.register ≤ 32
   pub granules : e.granules ≤ 2
   pub value : e.register ≡ 32 → e.value ≡ 0
-  pub none : e.granules ≡ 0 → (e.tag ≡ 0) × (e.second ≡ 0) × (e.first ≡ 0)
-  pub one : e.granules ≡ 1 → (e.second ≡ 0) × (e.c ≡ 0) × (e.d ≡ 0)
-  pub unsaved : e.saved ≡ 0 → (e.a ≡ 0) × (e.b ≡ 0) × (e.c ≡ 0) × (e.d ≡ 0)
-  pub saved : e.saved ≡ 1 → e.granules ≡ 0 → ⊥
+  pub none : e.granules ≡ 0 → (tag_at e 0 ≡ 0) × (tag_at e 1 ≡ 0) × (e.first ≡ 0)
+  pub one : e.granules ≡ 1 → (tag_at e 1 ≡ 0) × (data_at e 2 ≡ 0) × (data_at e 3 ≡ 0)
+  pub unsaved : e.saved ≡ false → (data_at e 0 ≡ 0) × (data_at e 1 ≡ 0) × (data_at e 2 ≡ 0) × (data_at e 3 ≡ 0)
+  pub saved : e.saved ≡ true → e.granules ≡ 0 → ⊥
   pub inside : e.first + e.granules ≤ g
 
 neither : (a b : Bool) → (a || b) ≡ false → (a ≡ false) × (b ≡ false)
@@ -54,22 +55,22 @@ pub gaps : (r : List ℕ) → gap_not_zero r ≡ false
 gaps r h = four_zeros (bits_at (get_or r 0 0) 6 2) (bits_at (get_or r 0 0) 11 5) (bits_at (get_or r 0 0) 56 8) (get_or r 7 0) h
 
 module _ (e : Entry) where
-  tags_part : tags_not_zero e ≡ false → (e.granules ≡ 0 → (e.tag ≡ 0) × (e.second ≡ 0) × (e.first ≡ 0)) × (e.granules ≡ 1 → e.second ≡ 0)
+  tags_part : tags_not_zero e ≡ false → (e.granules ≡ 0 → (tag_at e 0 ≡ 0) × (tag_at e 1 ≡ 0) × (e.first ≡ 0)) × (e.granules ≡ 1 → tag_at e 1 ≡ 0)
   tags_part h =
-      let any : Bool = not_zero e.tag || (not_zero e.second || not_zero e.first) in
-      let p = neither (eqb e.granules 0 && any) (eqb e.granules 1 && not_zero e.second) h in (
-        λ z. three_zeros e.tag e.second e.first (where_it_is e.granules 0 any p.0 z),
-        λ z. is_zero e.second (where_it_is e.granules 1 (not_zero e.second) p.1 z),
+      let any : Bool = not_zero (tag_at e 0) || (not_zero (tag_at e 1) || not_zero e.first) in
+      let p = neither (eqb e.granules 0 && any) (eqb e.granules 1 && not_zero (tag_at e 1)) h in (
+        λ z. three_zeros (tag_at e 0) (tag_at e 1) e.first (where_it_is e.granules 0 any p.0 z),
+        λ z. is_zero (tag_at e 1) (where_it_is e.granules 1 (not_zero (tag_at e 1)) p.1 z),
       )
 
   data_part : data_not_zero e ≡ false
-      → (e.saved ≡ 0 → (e.a ≡ 0) × (e.b ≡ 0) × (e.c ≡ 0) × (e.d ≡ 0)) × (e.granules ≡ 1 → (e.c ≡ 0) × (e.d ≡ 0))
+      → (e.saved ≡ false → (data_at e 0 ≡ 0) × (data_at e 1 ≡ 0) × (data_at e 2 ≡ 0) × (data_at e 3 ≡ 0)) × (e.granules ≡ 1 → (data_at e 2 ≡ 0) × (data_at e 3 ≡ 0))
   data_part h =
-      let half : Bool = not_zero e.c || not_zero e.d in
-      let any : Bool = not_zero e.a || (not_zero e.b || half) in
-      let p = neither (eqb e.saved 0 && any) (eqb e.granules 1 && half) h in (
-        λ z. four_zeros e.a e.b e.c e.d (where_it_is e.saved 0 any p.0 z),
-        λ z. two_zeros e.c e.d (where_it_is e.granules 1 half p.1 z),
+      let half : Bool = not_zero (data_at e 2) || not_zero (data_at e 3) in
+      let any : Bool = not_zero (data_at e 0) || (not_zero (data_at e 1) || half) in
+      let p = neither (not e.saved && any) (eqb e.granules 1 && half) h in (
+        λ z. four_zeros (data_at e 0) (data_at e 1) (data_at e 2) (data_at e 3) (rw z at p.0),
+        λ z. two_zeros (data_at e 2) (data_at e 3) (where_it_is e.granules 1 half p.1 z),
       )
 
 pub rules : (g : ℕ) (r : List ℕ) → malformed g r ≡ false → (gap_not_zero r ≡ false) × Rules g (entry_in r)
@@ -98,7 +99,11 @@ rules g r h =
         none = tags.0;
         one = λ z. let q = words.1 z in (tags.1 z, q.0, q.1);
         unsaved = words.0;
-        saved = λ y z. false≢true (sym (where_it_is e.saved 1 (eqb e.granules 0) p₅.0 y) ∙ eq-eqb e.granules 0 z);
+        saved = λ y z. false≢true (sym (rw y at p₅.0) ∙ eq-eqb e.granules 0 z);
         inside = ltb-false g (e.first + e.granules) p₅.1;
       },
     )
+
+-- the granules of an accepted record are inside
+pub accepted : (g : ℕ) (r : List ℕ) (e : Entry) → malformed g r ≡ false → e ≡ entry_in r → (e.granules ≤ 2) × (e.first + e.granules ≤ g)
+accepted g r e h p = let k = (rules g r h).1 in rw p (k.granules, k.inside)

@@ -1,7 +1,8 @@
 -- When a record is malformed (document 01, "History", its last sentence).
 use Rattle.std.specs.Prelude.{ℕ, ◌+◌, Bool, not, ◌&&◌, ◌||◌, List, eqb, ltb, get_or}
 use Rattle.bits.specs.Fields.{bits_at}
-use Rattle.history.specs.Records.{Entry, entry_in}
+use Rattle.history.specs.declared.Entry.{Entry}
+use Rattle.history.specs.Records.{tag_at, data_at, entry_in}
 
 abbrev pub not_zero : ℕ → Bool
 not_zero n = not (eqb n 0)
@@ -22,17 +23,18 @@ value_not_zero e = eqb e.register 32 && not_zero e.value
 -- with no granules: both tags and the index; with one: the second tag
 abbrev pub tags_not_zero : Entry → Bool
 tags_not_zero e =
-    (eqb e.granules 0 && (not_zero e.tag || (not_zero e.second || not_zero e.first))) || (eqb e.granules 1 && not_zero e.second)
+    (eqb e.granules 0 && (not_zero (tag_at e 0) || (not_zero (tag_at e 1) || not_zero e.first)))
+    || (eqb e.granules 1 && not_zero (tag_at e 1))
 
 -- with no data saved: all of the data; with one granule: the second half
 abbrev pub data_not_zero : Entry → Bool
 data_not_zero e =
-    (eqb e.saved 0 && (not_zero e.a || (not_zero e.b || (not_zero e.c || not_zero e.d))))
-    || (eqb e.granules 1 && (not_zero e.c || not_zero e.d))
+    (not e.saved && (not_zero (data_at e 0) || (not_zero (data_at e 1) || (not_zero (data_at e 2) || not_zero (data_at e 3)))))
+    || (eqb e.granules 1 && (not_zero (data_at e 2) || not_zero (data_at e 3)))
 
 -- data saved with no granules
 abbrev pub data_of_none : Entry → Bool
-data_of_none e = eqb e.saved 1 && eqb e.granules 0
+data_of_none e = e.saved && eqb e.granules 0
 
 -- granules beyond G
 abbrev pub beyond : ℕ → Entry → Bool

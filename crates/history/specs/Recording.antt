@@ -1,5 +1,5 @@
 -- What an accepted word records (document 01, "History", second paragraph), and what a record restores.
-use Rattle.std.specs.Prelude.{ℕ, ◌+◌, ◌*◌, Bool, true, false, cond, ◌&&◌, List, [], eqb, ltb, drop, get_or}
+use Rattle.std.specs.Prelude.{ℕ, ◌+◌, ◌*◌, Bool, true, false, cond, ◌&&◌, List, [], ◌∷◌, ltb, drop, get_or, Option, Some, None}
 use Rattle.std.proofs.lemmas.List.Edits.{sets}
 use Rattle.bits.specs.LittleEndian.{word_from}
 use Rattle.isa.specs.declared.TwoSourceOp.{TwoSourceOp}
@@ -8,14 +8,13 @@ use Rattle.isa.specs.declared.TagStoreOp.{TagStoreOp}
 use Rattle.isa.specs.declared.TagStoreOp.TheVariants.{Stg, Stzg, St2g, Stz2g}
 use Rattle.isa.specs.declared.Form.{Form}
 use Rattle.isa.specs.declared.Form.TheVariants.{AddSub, TwoSource, Ldg, TagStore, Stgp}
-use Rattle.isa.specs.declared.Decoded.{Decoded}
-use Rattle.isa.specs.declared.Decoded.TheVariants.{Is, Undefined}
 use Rattle.memory.specs.Locations.{index_of}
 use Rattle.memory.specs.Stores.{saved_bytes, saved_tags}
-use Rattle.machine.specs.State.{State, state_of, with_nzcv, with_rgsr, with_seed}
+use Rattle.machine.specs.State.{State, state_of}
 use Rattle.machine.specs.Registers.{x_or_sp, or_none, written}
 use Rattle.instructions.specs.Accesses.{Access, no_access, access, access_of, writeback_to}
-use Rattle.history.specs.Records.{Entry, words_of}
+use Rattle.history.specs.declared.Entry.{Entry}
+use Rattle.history.specs.Records.{tag_at, data_at, words_of}
 
 -- the register: the destination or writeback target, 32 if there is neither or it is the zero register
 
@@ -67,18 +66,14 @@ entry_for r n i saves s =
     record {
       register = r;
       granules = n;
-      saved = cond saves 1 0;
-      tag = cond (ltb 0 n) (get_or s.tags i 0) 0;
-      second = cond (ltb 1 n) (get_or s.tags (i + 1) 0) 0;
-      nzcv = s.registers.status.nzcv;
-      rgsr = s.registers.status.rgsr;
-      seed = s.registers.status.seed;
+      saved = saves;
+      tags = cond (ltb 0 n) (get_or s.tags i 0) 0 ∷ cond (ltb 1 n) (get_or s.tags (i + 1) 0) 0 ∷ [];
+      status = s.registers.status;
       value = x_or_sp s.registers.x r;
       first = i;
-      a = old_word saves s.bytes (16 * i);
-      b = old_word saves s.bytes (16 * i + 8);
-      c = old_word (saves && ltb 1 n) s.bytes (16 * i + 16);
-      d = old_word (saves && ltb 1 n) s.bytes (16 * i + 24);
+      «data» =
+          old_word saves s.bytes (16 * i) ∷ old_word saves s.bytes (16 * i + 8) ∷ old_word (saves && ltb 1 n) s.bytes (16 * i + 16)
+          ∷ old_word (saves && ltb 1 n) s.bytes (16 * i + 24) ∷ [];
     }
 
 abbrev pub entry_of : Form → State → Entry
@@ -87,14 +82,13 @@ entry_of f s =
     entry_for (target f) (granules_recorded a) (first_recorded s.settings.base a) (writes_data f) s
 
 -- the record of a word that is accepted on a state
-unfoldable pub record_of : Decoded → State → List ℕ
-record_of (Is f) s = words_of (entry_of f s)
-record_of Undefined s = []
+unfoldable pub record_of : Option Form → State → List ℕ
+record_of (Some f) s = words_of (entry_of f s)
+record_of None s = []
 
 -- a state with what an entry holds put back: register, NZCV and RGSR, tag bytes whole, data
 unfoldable pub restored : Entry → State → State
 restored e s =
-    state_of s.settings (written s.registers.x e.register e.value)
-    (with_nzcv e.nzcv (with_rgsr e.rgsr (with_seed e.seed s.registers.status)))
-    (cond (eqb e.saved 1) (sets s.bytes (16 * e.first) (saved_bytes e.granules e.a e.b e.c e.d)) s.bytes)
-    (sets s.tags e.first (saved_tags e.granules e.tag e.second))
+    state_of s.settings (written s.registers.x e.register e.value) e.status
+    (cond e.saved (sets s.bytes (16 * e.first) (saved_bytes e.granules (data_at e 0) (data_at e 1) (data_at e 2) (data_at e 3))) s.bytes)
+    (sets s.tags e.first (saved_tags e.granules (tag_at e 0) (tag_at e 1)))

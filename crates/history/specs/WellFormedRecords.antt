@@ -1,8 +1,9 @@
 -- Well-formed records (document 01, "History", second paragraph), built from what they hold, and that their words are exactly
 -- those that specs/BadRecords accepts. Proved in proofs/Exact.
-use Rattle.std.specs.Prelude.{ℕ, ◌+◌, ◌^◌, ◌≤◌, ◌<◌, ◌≡◌, false, List, length, get_or}
+use Rattle.std.specs.Prelude.{ℕ, ◌+◌, ◌^◌, ◌≤◌, ◌<◌, ◌≡◌, Bool, true, false, List, [], ◌∷◌, length, get_or}
 use Rattle.machine.specs.declared.Status.{Status}
-use Rattle.history.specs.Records.{Entry, words_of}
+use Rattle.history.specs.declared.Entry.{Entry}
+use Rattle.history.specs.Records.{words_of}
 use Rattle.history.specs.BadRecords.{malformed}
 
 -- a register (0 to 30, 31 SP) with its old value, or none
@@ -56,31 +57,26 @@ abbrev pub register_value : OldRegister → ℕ
 register_value (register n value) = value
 register_value no_register = 0
 
-abbrev pub places_of : ℕ → ℕ → Status → ℕ → ℕ → ℕ → ℕ → ℕ → ℕ → ℕ → ℕ → ℕ → Entry
-places_of n value status granules saved tag second first a b c d =
+abbrev pub places_of : ℕ → ℕ → Status → ℕ → Bool → ℕ → List ℕ → List ℕ → Entry
+places_of n value status granules saved first tags words =
     record {
       register = n;
       granules = granules;
       saved = saved;
-      tag = tag;
-      second = second;
-      nzcv = status.nzcv;
-      rgsr = status.rgsr;
-      seed = status.seed;
+      tags = tags;
+      status = status;
       value = value;
       first = first;
-      a = a;
-      b = b;
-      c = c;
-      d = d;
+      «data» = words;
     }
 
 abbrev pub with_granules : ℕ → ℕ → Status → OldGranules → Entry
-with_granules n value status no_granules = places_of n value status 0 0 0 0 0 0 0 0 0
-with_granules n value status (one first tag) = places_of n value status 1 0 tag 0 first 0 0 0 0
-with_granules n value status (one_saved first tag a b) = places_of n value status 1 1 tag 0 first a b 0 0
-with_granules n value status (two first tag second) = places_of n value status 2 0 tag second first 0 0 0 0
-with_granules n value status (two_saved first tag second a b c d) = places_of n value status 2 1 tag second first a b c d
+with_granules n value status no_granules = places_of n value status 0 false 0 (0 ∷ 0 ∷ []) (0 ∷ 0 ∷ 0 ∷ 0 ∷ [])
+with_granules n value status (one first tag) = places_of n value status 1 false first (tag ∷ 0 ∷ []) (0 ∷ 0 ∷ 0 ∷ 0 ∷ [])
+with_granules n value status (one_saved first tag a b) = places_of n value status 1 true first (tag ∷ 0 ∷ []) (a ∷ b ∷ 0 ∷ 0 ∷ [])
+with_granules n value status (two first tag second) = places_of n value status 2 false first (tag ∷ second ∷ []) (0 ∷ 0 ∷ 0 ∷ 0 ∷ [])
+with_granules n value status (two_saved first tag second a b c d) =
+    places_of n value status 2 true first (tag ∷ second ∷ []) (a ∷ b ∷ c ∷ d ∷ [])
 
 abbrev pub entry_held : Held → Entry
 entry_held h = with_granules (register_number h.register) (register_value h.register) h.status h.granules

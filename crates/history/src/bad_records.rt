@@ -1,88 +1,74 @@
 // When a record breaks a rule.
-ghost use Rattle.std.specs.Prelude.{◌≡◌, ◌≤◌, length};
+ghost use Rattle.std.specs.Prelude.{◌≡◌};
 ghost use Rattle.history.specs.BadRecords.{beyond, data_not_zero, data_of_none, gap_not_zero, malformed, out_of_range, tags_not_zero, value_not_zero};
-ghost use Rattle.history.specs.Records.{entry_in};
 
-#[tactic(auto, unfolding(crate::specs::Records::entry_in))]
-fn is_out_of_range(part: &[u64]) -> bool
-    requires { 8 ≤ length part.now }
-    ensures { result ≡ out_of_range (entry_in part.now) }
-{
-    let w = part[0];
-    (32 < bits::field(w, 0, 6)) | (2 < bits::field(w, 8, 2))
-}
+use super::Entry;
 
-fn is_gap_used(part: &[u64]) -> bool
-    requires { 8 ≤ length part.now }
+fn is_gap_used(part: &[u64; 8]) -> bool
     ensures { result ≡ gap_not_zero part.now }
 {
     let w = part[0];
-    (bits::field(w, 6, 2) != 0)
-        | ((bits::field(w, 11, 5) != 0) | ((bits::field(w, 56, 8) != 0) | (part[7] != 0)))
+    bits::field(w, 6, 2) != 0
+        || bits::field(w, 11, 5) != 0
+        || bits::field(w, 56, 8) != 0
+        || part[7] != 0
 }
 
-#[tactic(auto, unfolding(crate::specs::Records::entry_in))]
-fn is_stray_value(part: &[u64]) -> bool
-    requires { 8 ≤ length part.now }
-    ensures { result ≡ value_not_zero (entry_in part.now) }
-{
-    (bits::field(part[0], 0, 6) == 32) & (part[1] != 0)
-}
-
-#[tactic(auto, unfolding(crate::specs::Records::entry_in))]
-fn is_stray_tag(part: &[u64]) -> bool
-    requires { 8 ≤ length part.now }
-    ensures { result ≡ tags_not_zero (entry_in part.now) }
-{
-    let w = part[0];
-    let granules = bits::field(w, 8, 2);
-    let tag = bits::field(w, 16, 8);
-    let second = bits::field(w, 24, 8);
-    ((granules == 0) & ((tag != 0) | ((second != 0) | (part[2] != 0))))
-        | ((granules == 1) & (second != 0))
-}
-
-#[tactic(auto, unfolding(crate::specs::Records::entry_in))]
-fn is_stray_data(part: &[u64]) -> bool
-    requires { 8 ≤ length part.now }
-    ensures { result ≡ data_not_zero (entry_in part.now) }
-{
-    let w = part[0];
-    let granules = bits::field(w, 8, 2);
-    let saved = bits::field(w, 10, 1);
-    ((saved == 0) & ((part[3] != 0) | ((part[4] != 0) | ((part[5] != 0) | (part[6] != 0)))))
-        | ((granules == 1) & ((part[5] != 0) | (part[6] != 0)))
-}
-
-#[tactic(auto, unfolding(crate::specs::Records::entry_in))]
-fn is_data_of_none(part: &[u64]) -> bool
-    requires { 8 ≤ length part.now }
-    ensures { result ≡ data_of_none (entry_in part.now) }
-{
-    let w = part[0];
-    (bits::field(w, 10, 1) == 1) & (bits::field(w, 8, 2) == 0)
-}
-
-#[tactic(auto, using(crate::proofs::Room::test_moved), unfolding(crate::specs::Records::entry_in))]
-fn is_beyond(part: &[u64], granules: usize) -> bool
-    requires { 8 ≤ length part.now }
-    ensures { result ≡ beyond granules (entry_in part.now) }
-{
-    let first = part[2];
-    let all = granules as u64;
-    if all < first {
-        return true;
+impl Entry {
+    fn is_out_of_range(&self) -> bool
+        ensures { result ≡ out_of_range self.now }
+    {
+        32 < self.register || 2 < self.granules
     }
-    all - first < bits::field(part[0], 8, 2)
+
+    fn is_stray_value(&self) -> bool
+        ensures { result ≡ value_not_zero self.now }
+    {
+        self.register == 32 && self.value != 0
+    }
+
+    fn is_stray_tag(&self) -> bool
+        ensures { result ≡ tags_not_zero self.now }
+    {
+        let [tag, second] = self.tags;
+        (self.granules == 0 && (tag != 0 || second != 0 || self.first != 0))
+            || (self.granules == 1 && second != 0)
+    }
+
+    fn is_stray_data(&self) -> bool
+        ensures { result ≡ data_not_zero self.now }
+    {
+        let [a, b, c, d] = self.data;
+        (!self.saved && (a != 0 || b != 0 || c != 0 || d != 0))
+            || (self.granules == 1 && (c != 0 || d != 0))
+    }
+
+    fn is_data_of_none(&self) -> bool
+        ensures { result ≡ data_of_none self.now }
+    {
+        self.saved && self.granules == 0
+    }
+
+    // Tested with no sum, which may be too large.
+    #[tactic(auto, using(crate::proofs::Room::test_moved))]
+    fn is_beyond(&self, all: usize) -> bool
+        ensures { result ≡ beyond all self.now }
+    {
+        all < self.first || all - self.first < self.granules
+    }
 }
 
 // Whether the record breaks a rule, where there are so many granules.
 #[tactic(auto, unfolding(crate::specs::BadRecords::malformed))]
-pub fn is_malformed(part: &[u64], granules: usize) -> bool
-    requires { 8 ≤ length part.now }
+pub fn is_malformed(part: &[u64; 8], granules: usize) -> bool
     ensures { result ≡ malformed granules part.now }
 {
-    let misplaced = is_data_of_none(part) | is_beyond(part, granules);
-    let stray = is_stray_value(part) | (is_stray_tag(part) | (is_stray_data(part) | misplaced));
-    is_out_of_range(part) | (is_gap_used(part) | stray)
+    let entry = Entry::of_words(part);
+    entry.is_out_of_range()
+        || is_gap_used(part)
+        || entry.is_stray_value()
+        || entry.is_stray_tag()
+        || entry.is_stray_data()
+        || entry.is_data_of_none()
+        || entry.is_beyond(granules)
 }

@@ -3,23 +3,34 @@
 #![tactic(auto)]
 
 ghost use Rattle.std.specs.Prelude.{false, ◌≡◌, ◌+◌, ◌*◌, ◌%◌, ◌<◌, ◌≤◌, min, length};
-ghost use Rattle.std.proofs.lemmas.List.Edits.{sets};
-ghost use Rattle.machine.specs.declared.Settings.{Settings};
-ghost use Rattle.machine.specs.declared.Status.{Status};
+ghost use Rattle.machine.specs.Loans.{SameLoans};
 ghost use Rattle.machine.specs.Setup.{slots_of};
-ghost use Rattle.machine.specs.State.{state_of};
+ghost use Rattle.machine.specs.State.{with_memory};
 ghost use Rattle.history.specs.BadRecords.{malformed};
-ghost use Rattle.history.specs.Inside.Slots.{CursorPlaced, data_restored, history_of, slot_words};
-ghost use Rattle.history.specs.Inside.StatusWords.{IsStatus, status_in};
+ghost use Rattle.history.specs.Inside.Slots.{CursorPlaced, data_restored, history_of};
 ghost use Rattle.history.specs.Recording.{restored};
 ghost use Rattle.history.specs.Records.{entry_in};
 ghost use Rattle.history.specs.Ring.{advanced, previous, pushed, retreated};
 
 pub use bad_records::is_malformed;
-use machine::{Cursor, register_file};
+use machine::{Cursor, Setup, Status};
 
 mod bad_records;
-pub mod status_words;
+mod records;
+
+// What a record holds: the register with its old value, the granules with their old tags and their old data, and the old status. Register 32 is none, and
+// what is not in use is zero.
+#[derive(Clone, Copy, Debug, PartialEq, Eq)]
+pub struct Entry {
+    pub register: u64,
+    pub granules: usize,
+    pub saved: bool,
+    pub tags: [u8; 2],
+    pub status: Status,
+    pub value: u64,
+    pub first: usize,
+    pub data: [u64; 4],
+}
 
 fn slot_after(next: usize, slots: usize) -> usize
     requires { next < slots }
@@ -69,83 +80,48 @@ pub fn retreat(cursor: Cursor, slots: usize) -> Cursor
     }
 }
 
-fn write(part: &mut [u64], word: u64, value: u64, first: u64, a: u64, b: u64, c: u64, d: u64)
-    requires { 8 ≤ length part.old }
-    ensures { part.new ≡ sets part.old 0 (slot_words word value first a b c d) }
-{
-    part[0] = word;
-    part[1] = value;
-    part[2] = first;
-    part[3] = a;
-    part[4] = b;
-    part[5] = c;
-    part[6] = d;
-    part[7] = 0;
-}
-
-// Writes a record into the slot at the cursor, if there is one, and answers the cursor after that.
-pub fn push(
-    history: &mut [u64],
-    cursor: Cursor,
-    word: u64,
-    value: u64,
-    first: u64,
-    a: u64,
-    b: u64,
-    c: u64,
-    d: u64,
-) -> Cursor
-    requires { CursorPlaced (slots_of (length history.old)) cursor }
-    ensures { let before = history_of history.old cursor in
-        history_of history.new result ≡ pushed (slot_words word value first a b c d) before }
+// Writes a record into the slot at the cursor, if there is one, and moves the cursor on.
+#[tactic(auto, using(crate::proofs::Slots::slot_written), unfolding(crate::specs::Ring::pushed))]
+pub fn push(history: &mut [u64], cursor: &mut Cursor, part: [u64; 8])
+    requires { CursorPlaced (slots_of (length history.old)) cursor.old }
+    ensures { history_of history.new cursor.new ≡ pushed part (history_of history.old cursor.old) }
 {
     let slots = history.len() / 8;
     if slots == 0 {
-        return cursor;
+        return;
     }
     let at = 8 * cursor.next;
-    write(&mut history[at..], word, value, first, a, b, c, d);
-    advance(cursor, slots)
+    history[at..at + 8].copy_from_slice(&part);
+    *cursor = advance(*cursor, slots);
 }
 
-// Restores the data that a record holds, if it holds any.
-#[tactic(auto, using(crate::proofs::Restored::saved_data_back), unfolding(crate::specs::Records::entry_in))]
-fn restore_data(bytes: &mut [u8], first: usize, granules: usize, part: &[u64])
-    requires in_bounds { 8 ≤ length part.now }
-    requires granules_bound { granules ≤ 2 }
-    requires granules_in_bounds { 16 * (first + granules) ≤ length bytes.old }
-    ensures { bytes.new ≡ data_restored (entry_in part.now) first granules bytes.old }
+// Puts back the data that a record holds, if it holds any.
+#[tactic(auto, using(crate::proofs::Restored::saved_data_back))]
+fn restore_data(bytes: &mut [u8], entry: Entry)
+    requires granules_bound { entry.granules ≤ 2 }
+    requires granules_in_bounds { 16 * (entry.first + entry.granules) ≤ length bytes.old }
+    ensures { bytes.new ≡ data_restored entry bytes.old }
 {
-    if bits::field(part[0], 10, 1) == 1 {
-        let at = 16 * first;
-        memory::restore(
-            &mut bytes[at..],
-            granules,
-            part[3],
-            part[4],
-            part[5],
-            part[6],
-        );
+    if entry.saved {
+        let at = 16 * entry.first;
+        memory::restore(&mut bytes[at..], entry.granules, entry.data);
     }
 }
 
-// Restores what a record holds, and answers the status.
-pub fn restore(x: &mut [u64; 32], bytes: &mut [u8], tags: &mut [u8], part: &[u64]) -> u64
-    requires in_bounds { 8 ≤ length part.now }
-    requires part_value { malformed (length tags.old) part.now ≡ false }
-    requires bytes_len { length bytes.old ≡ 16 * length tags.old }
-    ensures tags_after { (settings : Settings) (status : Status) →
-        state_of settings x.new (status_in result) bytes.new tags.new
-        ≡ restored (entry_in part.now) (state_of settings x.old status bytes.old tags.old) }
-    ensures status { IsStatus result }
+// Puts back what a record holds: data, tags, the register and the status.
+#[tactic(auto, using(crate::proofs::Rules::accepted), unfolding(crate::specs::Recording::restored, crate::specs::Records::entry_in))]
+pub fn restore(setup: &mut Setup<'_>, part: &[u64; 8])
+    requires part_value { malformed (length setup.old.tags.now) part.now ≡ false }
+    requires bytes_len { length setup.old.bytes.now ≡ 16 * length setup.old.tags.now }
+    ensures loans { SameLoans setup.old setup.new }
+    ensures state { with_memory setup.new.machine setup.new.bytes.now setup.new.tags.now
+        ≡ restored (entry_in part.now) (with_memory setup.old.machine setup.old.bytes.now setup.old.tags.now) }
+    ensures cursor { setup.new.machine.cursor ≡ setup.old.machine.cursor }
 {
-    let w = part[0];
-    let granules = bits::field(w, 8, 2) as usize;
-    let first = part[2] as usize;
-    let tag = bits::field(w, 16, 8) as u8;
-    let second = bits::field(w, 24, 8) as u8;
-    restore_data(bytes, first, granules, part);
-    memory::restore_tags(tags, first, granules, tag, second);
-    register_file::write(x, bits::field(w, 0, 6), part[1]);
-    status_words::only(w)
+    let entry = Entry::of_words(part);
+    restore_data(setup.bytes, entry);
+    memory::restore_tags(setup.tags, entry.first, entry.granules, entry.tags);
+    let registers = &mut setup.machine.registers;
+    registers.write(entry.register, entry.value);
+    registers.status = entry.status;
 }

@@ -5,7 +5,8 @@ use mathlib.Core.List.{List, []}
 use mathlib.Core.Path.{◌≡◌, refl, sym}
 use native.Mathlib.Omega.{arith}
 use lib.ListN.{length, take, drop}
-use Rattle.memory.specs.declared.Granule.TheVariants.{At, Outside}
+use Rattle.std.specs.Prelude.{Ok, Err}
+use Rattle.memory.specs.declared.LocateError.TheVariants.{Outside}
 use Rattle.memory.specs.Locations.{location, inside, index_of, granule_of}
 use Rattle.memory.specs.Sizes.{sizes_ok}
 use Rattle.memory.proofs.Locations.{inside_range, one_inside, located, all_first}
@@ -43,7 +44,7 @@ module _ (pointer base : ℕ) (bytes tags : List ℕ) where
   unfolding points_inside
   unsized h = rw h
 
-  pub missed : granule_of base (length tags) pointer 1 ≡ Outside → points_inside pointer base bytes tags ≡ false
+  pub missed : granule_of base (length tags) pointer 1 ≡ Err Outside → points_inside pointer base bytes tags ≡ false
   unfolding points_inside
   missed h = rw (go (inside base (length tags) pointer) refl) (and-false (sizes_ok base (length bytes) (length tags)))
     where
@@ -56,7 +57,7 @@ module _ (pointer base : ℕ) (bytes tags : List ℕ) where
     pub index : first ≡ index_of base pointer
     pub inside : Inside
 
-  pub found : (first : ℕ) → sizes_ok base (length bytes) (length tags) ≡ true → granule_of base (length tags) pointer 1 ≡ At first
+  pub found : (first : ℕ) → sizes_ok base (length bytes) (length tags) ≡ true → granule_of base (length tags) pointer 1 ≡ Ok first
       → Found first
   unfolding points_inside
   found first s h =

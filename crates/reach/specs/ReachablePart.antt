@@ -1,5 +1,6 @@
 -- The part of the data that a pointer reaches (document 01, "The reachable part").
-use Rattle.std.specs.Prelude.{ℕ, suc, ◌-◌, ◌*◌, ◌/◌, ◌%◌, Bool, cond, ◌&&◌, List, [], ◌∷◌, eqb, length, take, drop}
+use Rattle.std.specs.Prelude.{ℕ, ◌-◌, ◌*◌, ◌/◌, ◌%◌, Bool, cond, ◌&&◌, List, [], eqb, length, take, drop}
+use Rattle.std.specs.List.{prefix_len}
 use Rattle.memory.specs.Locations.{location, inside}
 use Rattle.memory.specs.Sizes.{sizes_ok}
 use Rattle.memory.specs.TagBytes.{tag_in}
@@ -7,8 +8,7 @@ use Rattle.tag.specs.PointerTags.{tag_of}
 
 -- how many granules in a row, from the first on, carry the tag
 unfoldable pub in_row : ℕ → List ℕ → ℕ
-in_row tag [] = 0
-in_row tag (byte ∷ tags) = cond (eqb (tag_in byte) tag) (suc (in_row tag tags)) 0
+in_row tag tags = prefix_len (λ byte. eqb (tag_in byte) tag) tags
 
 -- where in the data the pointer's own byte is: it may lie inside a granule
 abbrev pub offset_of : ℕ → ℕ → ℕ

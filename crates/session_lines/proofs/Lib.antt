@@ -3,7 +3,6 @@ pub mod FirstWrongLines
 pub mod GoodSessions
 pub mod Lengths
 pub mod LineFormats
-pub mod Lists
 pub mod OnlyGoodSessions
 pub mod Parsing
 pub mod Prefix

@@ -7,13 +7,14 @@ use lib.ListN.{length, get_or, take, drop, get_or-append}
 use lib.Seq.{drop_at, take-append-add}
 use Rattle.execution.specs.Steps.{run_of}
 use Rattle.session_text.specs.Inside.Buffers.{Fits}
-use Rattle.session_text.specs.LineFormats.{front_formats, format_of}
-use Rattle.session_text.specs.Laws.{OnlyGoodIsRead}
-use Rattle.session_text.specs.Parsing.{good, bad, parsed}
+use Rattle.session_lines.specs.LineFormats.{front_formats, format_of}
+use Rattle.session_lines.specs.Laws.{OnlyGoodIsRead}
+use Rattle.session_lines.specs.Parsing.{good, bad, parsed}
 use Rattle.session_text.specs.Printing.{bad_text}
-use Rattle.session_text.specs.Run.{Start, ran_of, simulation_of, start_of}
+use Rattle.session_text.specs.declared.runner.Start.{Start}
+use Rattle.session_text.specs.Run.{ran_of, simulation_of, start_of}
 use Rattle.session_text.specs.Session.{answer_text, ran_text}
-use Rattle.session_text.proofs.OnlyGoodSessions.{only_good_is_read}
+use Rattle.session_lines.proofs.OnlyGoodSessions.{only_good_is_read}
 
 pub answer_bad : (s : List ℕ) (number : ℕ) → bad number ≡ parsed s → answer_text s ≡ bad_text number
 unfolding answer_text
@@ -40,7 +41,6 @@ module _ (s front words : List ℕ) (n : ℕ) (long : length front ≡ 9) (enoug
   unfolding format_of front_formats
   fits =
       record {
-        nine = long;
         granules = small 1 (omega arith);
         exclude = let h : get_or front 3 0 ≤ 0xffff = small 3 (omega arith) in omega arith;
         seed = let h : get_or front 4 0 ≤ 0xffff = small 4 (omega arith) in omega arith;

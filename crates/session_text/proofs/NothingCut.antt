@@ -8,14 +8,15 @@ use lib.ListN.{length, drop, length-drop}
 use Rattle.machine.specs.declared.Code.{Code}
 use Rattle.machine.specs.declared.Code.TheVariants.{Done, Setup, Undefined, SpAlign, Align, Outside, NoHistory, BadRecord, Field}
 use Rattle.machine.specs.Codes.{code_number}
-use Rattle.machine.proofs.Setup.{setup_state, state_status}
+use Rattle.machine.proofs.Rules.{setup_state, state_status}
 use Rattle.execution.specs.Calls.{Returned, Out, refused, done, in_order, returned, one_more}
 use Rattle.execution.specs.Simulation.{Simulation, machine_of, well_formed}
 use Rattle.execution.specs.Steps.{run_of, step_of}
 use Rattle.execution.proofs.Kept.{step_keeps}
-use Rattle.session_text.specs.Laws.{NothingIsCut, OnlyGoodIsRead, Printable}
+use Rattle.session_lines.specs.Laws.{OnlyGoodIsRead}
+use Rattle.session_text.specs.Laws.{NothingIsCut, Printable}
 use Rattle.session_text.specs.Run.{machine_for, ran_of, simulation_of, start_of}
-use Rattle.session_text.proofs.OnlyGoodSessions.{only_good_is_read}
+use Rattle.session_lines.proofs.OnlyGoodSessions.{only_good_is_read}
 
 code_small : (code : Code) → code_number code < 16
 code_small Done = omega arith

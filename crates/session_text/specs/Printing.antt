@@ -5,7 +5,7 @@ use Rattle.text.specs.Lines.{line_text, digits_line}
 use Rattle.machine.specs.declared.Code.{Code}
 use Rattle.machine.specs.declared.Registers.{Registers}
 use Rattle.machine.specs.Codes.{code_number}
-use Rattle.session_text.specs.LineFormats.{line_for, sp_format, x0_format, x1_format, x2_format}
+use Rattle.session_lines.specs.LineFormats.{line_for, sp_format, x0_format, x1_format, x2_format}
 
 -- bad=, the number of the first wrong, missing, unended or extra line
 unfoldable pub bad_text : ℕ → List ℕ

@@ -2,28 +2,18 @@
 use Rattle.std.specs.Prelude.{ℕ, ◌*◌, List, [], eqb, get_or, set, take, drop, replicate}
 use Rattle.machine.specs.declared.Machine.{Machine}
 use Rattle.machine.specs.State.{fresh_on, with_access, with_exclude, with_seed}
+use Rattle.session_text.specs.declared.runner.Start.{Start}
 use Rattle.execution.specs.Calls.{Returned}
 use Rattle.execution.specs.Simulation.{Simulation, simulation}
 use Rattle.execution.specs.Steps.{run_of}
 
--- the numbers of the nine lines, by name
-pub record Start : Type 0 where
-  pub base : ℕ
-  pub granules : ℕ
-  pub access : ℕ
-  pub exclude : ℕ
-  pub seed : ℕ
-  pub x0 : ℕ
-  pub x1 : ℕ
-  pub x2 : ℕ
-  pub sp : ℕ
-
+-- what the numbers of the nine lines say
 abbrev pub start_of : List ℕ → Start
 start_of v =
     record {
       base = get_or v 0 0;
       granules = get_or v 1 0;
-      access = get_or v 2 0;
+      access = eqb (get_or v 2 0) 1;
       exclude = get_or v 3 0;
       seed = get_or v 4 0;
       x0 = get_or v 5 0;
@@ -37,7 +27,7 @@ unfoldable pub machine_for : Start → Machine
 machine_for start =
     let fresh : Machine = fresh_on start.base in
     record {
-      settings = with_exclude start.exclude (with_access (eqb start.access 1) fresh.settings);
+      settings = with_exclude start.exclude (with_access start.access fresh.settings);
       registers =
           record {
             x = set (set (set (set fresh.registers.x 0 start.x0) 1 start.x1) 2 start.x2) 31 start.sp;

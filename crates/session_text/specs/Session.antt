@@ -2,7 +2,7 @@
 use Rattle.std.specs.Prelude.{ℕ, ◌≤◌, ◌<◌, List, ◌≡◌, length, take}
 use Rattle.execution.specs.Calls.{Returned}
 use Rattle.execution.specs.Simulation.{Simulation}
-use Rattle.session_text.specs.Parsing.{Parsed, good, bad, parsed}
+use Rattle.session_lines.specs.Parsing.{Parsed, good, bad, parsed}
 use Rattle.session_text.specs.Run.{ran_of}
 use Rattle.session_text.specs.Printing.{bad_text, report_text}
 

@@ -1,32 +1,25 @@
 // The session program's work on bytes: what it prints for what it reads.
 #![tactic(auto)]
 
-ghost use Rattle.std.specs.Prelude.{List, ◌≡◌, ℕ, ◌≤◌, length};
+ghost use Rattle.std.specs.Prelude.{List, ◌≡◌, ℕ, length};
 ghost use Rattle.std.proofs.lemmas.List.Edits.{sets};
 ghost use Rattle.session_text.specs.Inside.Buffers.{Printed};
 ghost use Rattle.session_text.specs.Session.{Lendable, ReadOf, answer_text};
 
-mod parser;
 mod printer;
 mod runner;
 
-// How many lines there are, or the number from 1 of the first wrong, missing, unended or extra one.
-#[derive(Clone, Copy)]
-pub(crate) enum Lines {
-    Good(usize),
-    Bad(usize),
-}
+use runner::Start;
 
 // Puts what is printed for a whole input at the start of out, and answers its length.
-fn answer_whole(input: &[u8], out: &mut [u8]) -> usize
-    requires { 1134 ≤ length out.old }
+fn answer_whole(input: &[u8], out: &mut [u8; 1134]) -> usize
     ensures { Printed result out.old out.new (answer_text input.now) }
 {
-    let mut front = [0u64; 9];
-    let mut words = [0u32; 256];
-    match parser::parse(input, &mut front, &mut words) {
-        Lines::Good(n) => runner::run(&front, &words[..n - 9], out),
-        Lines::Bad(number) => printer::put_bad(out, number),
+    let mut front = [0; 9];
+    let mut words = [0; 256];
+    match session_lines::parse(input, &mut front, &mut words) {
+        Ok(n) => runner::run(Start::of(&front), &words[..n - 9], out),
+        Err(line) => printer::put_bad(out, line.number),
     }
 }
 
@@ -38,7 +31,5 @@ pub fn answer(room: &[u8; 3733], read: usize, out: &mut [u8; 1134]) -> usize
     ensures by_index_2 { (input : List ℕ) → ReadOf room.now read input
         → out.new ≡ sets out.old 0 (answer_text input) }
 {
-    let bytes: &[u8] = room;
-    let n = if read < 3733 { read } else { 3733 };
-    answer_whole(&bytes[..n], out)
+    answer_whole(&room[..read.min(3733)], out)
 }

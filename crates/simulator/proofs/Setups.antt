@@ -1,35 +1,58 @@
 -- Calls and the rules of the setup: a call keeps a setup that keeps them, and is refused on one that breaks a rule. Assumes nothing.
-use Prim.Native.Nat.{ℕ, suc, ◌+◌, ◌-◌, ◌≤◌, ◌<◌}
+use Prim.Native.Nat.{ℕ, ◌+◌, ◌≤◌}
 use mathlib.Core.Bool.{Bool, true, false, cond}
-use mathlib.Core.List.{List, [], ◌∷◌}
+use mathlib.Core.List.{List, [], ◌∷◌, ◌++◌}
 use mathlib.Core.Path.{◌≡◌, refl, sym, ap}
-use native.Mathlib.Numerals.{add-one}
+use native.Mathlib.Nat.{zero-add}
 use native.Mathlib.Omega.{arith}
 use borrow.Author.Tests.{eqb-true, eqb-false, le-leb}
 use lib.Dec.{eqb}
-use lib.ListN.{length, drop, get_or, set, replicate}
-use lib.Seq.{sets, length-sets}
+use lib.ListN.{length, take, drop, get_or, replicate, length-replicate}
+use lib.Seq.{sets, sets-eq, length-sets, length-take-le}
+use Rattle.std.specs.Prelude.{Result, Ok, Err}
+use Rattle.bits.specs.Fields.{bits_at}
+use Rattle.machine.specs.declared.Code.{Code}
 use Rattle.machine.specs.declared.Code.TheVariants.{Setup, BadRecord}
 use Rattle.machine.specs.declared.Cursor.{Cursor}
-use Rattle.machine.specs.Codes.{code_number}
-use Rattle.machine.specs.Setup.{sound, state_ok}
+use Rattle.machine.specs.declared.Machine.{Machine}
+use Rattle.machine.specs.Setup.{checked, setup_ok, sound, state_ok}
 use Rattle.machine.specs.State.{State}
-use Rattle.machine.proofs.Setup.{state_sizes}
+use Rattle.machine.proofs.Rules.{state_sizes}
 use Rattle.history.specs.BadRecords.{malformed}
 use Rattle.history.specs.Ring.{capacity}
 use Rattle.history.specs.Recording.{restored}
 use Rattle.history.specs.Records.{entry_in}
 use Rattle.history.specs.Inside.Slots.{CursorPlaced, history_of}
-use Rattle.history.proofs.StatusWords.{in_range}
 use Rattle.execution.specs.Calls.{Call, step_call, run_call, back_call, Out, refused, done, Returned, returned, answered, one_more, in_order, call, calls}
+use Rattle.simulator.specs.declared.playing.Call.{Call as Asked}
 use Rattle.simulator.specs.Playing.{call_of, codes_of, counts_of, listed, words_taken}
-use Rattle.execution.specs.Simulation.{Simulation, well_formed}
+use Rattle.execution.specs.Simulation.{Simulation, simulation, well_formed}
 use Rattle.execution.specs.Steps.{step_of, run_of, step_back_of, simulator}
 use Rattle.simulator.specs.Inside.Playing.{Wrote}
-use Rattle.stepping.specs.Inside.Made.{undone_by}
 use Rattle.execution.proofs.Cursors.{placed, placed_ok, retreated_placed}
 use Rattle.execution.proofs.Kept.{well_formed_lem, step_keeps, ill_formed}
-use Rattle.stepping.proofs.StepsBack.{back_setup, back_none, back_undone}
+use Rattle.stepping.proofs.StepsBack.{back_setup, back_none, back_undone, undone_by}
+
+-- what the check of a setup tells
+
+module _ (m : Machine) (bytes tags words : List ℕ) where
+  pub check_passed : (u : Unit) → Ok u ≡ checked m (length bytes) (length tags) (length words)
+      → well_formed (simulation m bytes tags words) ≡ true
+  unfolding well_formed
+  check_passed u = go (setup_ok m (length bytes) (length tags) (length words))
+    where
+      go : (t : Bool) → Ok u ≡ cond {A = Result Unit Code} t (Ok tt) (Err Setup) → t ≡ true
+      go true e = refl
+      go false e = cc
+
+  pub check_failed : (code : Code) → Err code ≡ checked m (length bytes) (length tags) (length words)
+      → (well_formed (simulation m bytes tags words) ≡ false) × (code ≡ Setup)
+  unfolding well_formed
+  check_failed code = go (setup_ok m (length bytes) (length tags) (length words))
+    where
+      go : (t : Bool) → Err code ≡ cond {A = Result Unit Code} t (Ok tt) (Err Setup) → (t ≡ false) × (code ≡ Setup)
+      go true e = cc
+      go false e = (refl, cc)
 
 -- what a call keeps
 
@@ -62,13 +85,13 @@ restored_sound : (r : List ℕ) (s : State) → sound s ≡ true → sound (rest
 unfolding restored entry_in state_ok
 restored_sound r s h =
     let e = entry_in r in
-    let (nzcv, rgsr, seed) = in_range (get_or r 0 0) in
+    let four : (w at : ℕ) → bits_at w at 4 ≤ 15 = λ w at. omega arith in
     simp (
       data_length,
       length-sets,
       state_sizes s.settings s.registers.status (length s.bytes) (length s.tags) h,
-      le-leb e.nzcv 15 nzcv,
-      le-leb e.rgsr 15 rgsr,
+      le-leb e.status.nzcv 15 (four (get_or r 0 0) 32),
+      le-leb e.status.rgsr 15 (four (get_or r 0 0) 36),
     )
 
 module _ (s : Simulation) (h : well_formed s ≡ true) where
@@ -109,28 +132,29 @@ call_refused (step_call w) s h = rw (ill_formed s w h)
 call_refused (run_call ws) s h = rw h
 call_refused back_call s h = rw (back_setup s h)
 
-calls_refused : (list words : List ℕ) (s : Simulation) → well_formed s ≡ false
-    → (codes_of (calls simulator s (listed list words)).answers ≡ replicate (length list) (code_number Setup))
+calls_refused : (list : List Asked) (words : List ℕ) (s : Simulation) → well_formed s ≡ false
+    → (codes_of (calls simulator s (listed list words)).answers ≡ replicate (length list) Setup)
     × (counts_of (calls simulator s (listed list words)).answers ≡ replicate (length list) 0)
     × ((calls simulator s (listed list words)).final ≡ s)
 unfolding calls listed
 calls_refused [] words s h = (refl, refl, refl)
-calls_refused (n ∷ ns) words s h =
-    let rest = calls_refused ns (drop (words_taken n) words) s h in
-    rw (call_refused (call_of n words) s h) (ap (λ (l : List ℕ). code_number Setup ∷ l) rest.0, ap (λ (l : List ℕ). 0 ∷ l) rest.1, rest.2)
+calls_refused (c ∷ cs) words s h =
+    let rest = calls_refused cs (drop (words_taken c) words) s h in
+    rw (call_refused (call_of c words) s h) (ap (λ (l : List Code). Setup ∷ l) rest.0, ap (λ (l : List ℕ). 0 ∷ l) rest.1, rest.2)
 
-module _ (s : Simulation) (list words codes counts codes' counts' : List ℕ) where
-  pub list_refused : well_formed s ≡ false → codes' ≡ sets codes 0 (replicate (length list) (code_number Setup))
+module _ (s : Simulation) (list : List Asked) (words : List ℕ) (codes : List Code) (counts : List ℕ) (codes' : List Code)
+    (counts' : List ℕ) where
+  pub list_refused : well_formed s ≡ false → codes' ≡ sets codes 0 (replicate (length list) Setup)
       → counts' ≡ sets counts 0 (replicate (length list) 0) → Wrote s list words codes counts codes' counts' s
   list_refused h k n =
       let all = calls_refused list words s h in
       record { codes_written = rw all.0 k; counts_written = rw all.1 n; final = sym all.2 }
 
--- places filled from the one at i on
+-- the first places of a list filled with one value
 
-module _ (n i v : ℕ) (l : List ℕ) where
-  pub fill_on : i < n → sets l i (replicate (n - i) v) ≡ sets (set l i v) (i + 1) (replicate (n - (i + 1)) v)
-  fill_on h = let e : n - i ≡ suc (n - (i + 1)) = omega arith in rw (e, add-one)
-
-  pub fill_end : n ≤ i → sets l i (replicate (n - i) v) ≡ l
-  fill_end h = let e : n - i ≡ 0 = omega arith in rw e
+pub filled : {A : Type 0} (n : ℕ) (v : A) (l front : List A) → n ≤ length l → front ≡ replicate (length (take n l)) v
+    → front ++ drop n l ≡ sets l 0 (replicate n v)
+filled {A} n v l front h e =
+    let long : length (replicate n v) ≡ n = length-replicate n v in
+    let inside : 0 + length (replicate n v) ≤ length l = omega (arith, h, long) in
+    rw (e, length-take-le n l h, sets-eq (replicate n v) l 0 inside, long, zero-add) refl

@@ -7,7 +7,7 @@ ghost use Rattle.tag.specs.RandomBits.{drawn};
 ghost use Rattle.tag.specs.TagChoice.{chosen, masked};
 
 // Four random bits, and the seed after them.
-#[derive(Clone, Copy)]
+#[derive(Clone, Copy, Debug, PartialEq, Eq)]
 pub struct Drawn {
     pub bits: u8,
     pub seed: u16,
@@ -27,15 +27,15 @@ pub fn with_tag(v: u64, tag: u8) -> u64
     requires { tag < 16 }
     ensures { result ≡ with_tag v tag }
 {
-    bits::put(v, 56, 4, tag as u64)
+    bits::put(v, 56, 4, u64::from(tag))
 }
 
 // Whether the mask has the tag's bit.
-fn is_masked(mask: u16, tag: u64) -> bool
+fn is_masked(mask: u16, tag: u8) -> bool
     requires { tag < 16 }
     ensures { result ≡ masked mask tag }
 {
-    bits::field(mask as u64, tag, 1) == 1
+    bits::field(u64::from(mask), u64::from(tag), 1) == 1
 }
 
 // The chosen tag. A turn of the outer loop moves on by one, unless the offset is 0; the inner loop goes on past masked tags.
@@ -44,8 +44,8 @@ pub fn choose(start: u8, offset: u8, mask: u16) -> u8
     requires { start < 16 }
     ensures { result ≡ chosen start offset mask }
 {
-    let mut tag = start as u64;
-    let mut left = offset as u64;
+    let mut tag = start;
+    let mut left = offset;
     let all_masked = mask == 0xffff;
     'walk: loop {
         if 0 < left {
@@ -63,14 +63,14 @@ pub fn choose(start: u8, offset: u8, mask: u16) -> u8
             break;
         }
     }
-    tag as u8
+    tag
 }
 
 // Draws four random bits, lowest first, all at once: none of them has come down yet to the seed bits that are added.
 pub fn draw(seed: u16) -> Drawn
     ensures { result ≡ drawn seed }
 {
-    let s = seed as u64;
+    let s = u64::from(seed);
     let four = bits::field((s >> 5) ^ (s >> 3) ^ (s >> 2) ^ s, 0, 4);
     Drawn {
         bits: four as u8,

@@ -14,7 +14,9 @@ use Rattle.text.specs.Lines.{capped, framed, is_line, line_at, line_text, starts
 use Rattle.std.proofs.Common.{Option, None, Some}
 use Rattle.std.proofs.lemmas.Option.{option_and_then_some}
 use Rattle.std.proofs.lemmas.Bool.Decides.{nat_tests}
-use Rattle.text.proofs.Reading.{digit_small}
+use Rattle.std.proofs.lemmas.Slice.Eq.{starts_is}
+use Rattle.std.proofs.lemmas.Bool.Decides.{Decides-eqb}
+use Rattle.text.proofs.Reading.{digit_small, starts_same}
 use Rattle.text.proofs.Framing.{frame_fits, line_same, line_framed, line_says, line_unframed}
 
 -- a digit is the digit of its number
@@ -56,18 +58,6 @@ number_exact n v l e = digits_from 0 n 0 v l e ∙ rw zero-add
 
 -- the frame of a line
 
-key_passed : (t u : Bool) → cond t u false ≡ true → (t ≡ true) × (u ≡ true)
-key_passed true u e = (refl, e)
-key_passed false u e = cc
-
-key_exact : (key l : List ℕ) → starts key l ≡ true → take (length key) l ≡ key
-unfolding starts
-key_exact [] l e = refl
-key_exact (k ∷ key) [] e = cc
-key_exact (k ∷ key) (b ∷ l) e =
-    let p = key_passed (eqb k b) (starts key l) e in
-    rw (← eqb-true k b p.0) (ap (λ (rest : List ℕ). k ∷ rest) (key_exact key l p.1))
-
 value_by : (most after v next : ℕ) (h : Option ℕ) → capped most after h ≡ is_line v next → h ≡ Some v
 unfolding capped
 value_by most after v next (Some w) e = ap Some (same (leb w most) e)
@@ -102,5 +92,5 @@ module _ (key : List ℕ) (n most : ℕ) (s : List ℕ) (at v next : ℕ) (e : l
       let at_digits : drop (at + length key) s ≡ hex_digits n v ++ (10 ∷ drop next s)
       = sym (take-append-drop n (drop (at + length key) s)) ∙ rw (number_exact n v _ number, drop-drop, at_end) in
       let at_key : drop at s ≡ key ++ drop (at + length key) s
-      = sym (take-append-drop (length key) (drop at s)) ∙ rw (key_exact key (drop at s) q.1, drop-drop) in
+      = (starts_is Decides-eqb (drop at s) key _ (starts_same key (drop at s))).0 q.1 ∙ rw drop-drop in
       rw (at_key, at_digits, append_assoc, append_assoc)

@@ -14,14 +14,6 @@ use Rattle.text.specs.Lines.{starts, framed, capped, is_line, line_at}
 use Rattle.text.specs.declared.Line.{Line}
 
 module _ (key : List ℕ) (n : ℕ) (s : List ℕ) (at : ℕ) where
-  pub frame_short : length s < at + (length key + n + 1) → framed key n s at ≡ false
-  unfolding framed
-  frame_short h = rw (lt-leb _ _ h)
-
-  pub frame_key : at + (length key + n + 1) ≤ length s → starts key (drop at s) ≡ false → framed key n s at ≡ false
-  unfolding framed
-  frame_key h k = rw (le-leb _ _ h, k)
-
   pub frame_end : at + (length key + n + 1) ≤ length s → starts key (drop at s) ≡ true → framed key n s at ≡ eqb (get_or s (at + length key + n) 0) 10
   unfolding framed
   frame_end h k = rw (le-leb _ _ h, k)

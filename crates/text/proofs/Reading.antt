@@ -51,7 +51,7 @@ and_as_cond : (t u : Bool) → cond t u false ≡ (t && u)
 and_as_cond true u = refl
 and_as_cond false u = refl
 
-starts_same : (key l : List ℕ) → starts key l ≡ starts_with eqb l key
+pub starts_same : (key l : List ℕ) → starts key l ≡ starts_with eqb l key
 unfolding starts
 starts_same [] l = refl
 starts_same (k ∷ key) [] = refl

@@ -15,6 +15,9 @@ use Rattle.text.specs.RoundTrip.{LineBack, DigitsLineBack}
 use Rattle.std.proofs.Common.{Some}
 use Rattle.std.proofs.lemmas.Bool.Decides.{nat_tests}
 use Rattle.text.proofs.Framing.{frame_end, line_framed, capped_is}
+use Rattle.std.proofs.lemmas.Slice.Eq.{starts_is}
+use Rattle.std.proofs.lemmas.Bool.Decides.{Decides-eqb}
+use Rattle.text.proofs.Reading.{starts_same}
 use Rattle.text.proofs.Writing.{length_digits, length_digits_text}
 
 pub digit_back : (v : ℕ) → v < 16 → digit_value (digit_of v) ≡ Some v
@@ -51,9 +54,7 @@ number_back n v l h =
     ap (λ (k : ℕ). read_hex k 0 (hex_digits n v ++ l)) (sym z) ∙ digits_back n 0 0 v l h ∙ ap Some e
 
 starts_self : (key l : List ℕ) → starts key (key ++ l) ≡ true
-unfolding starts
-starts_self [] l = refl
-starts_self (k ∷ key) l = rw (eq-eqb k k refl) (starts_self key l)
+starts_self key l = (starts_is Decides-eqb (key ++ l) key _ (starts_same key (key ++ l))).1 l refl
 
 -- a key, digits and a line feed between any two lists
 module _ (before key digits behind : List ℕ) where

@@ -137,6 +137,7 @@ fn put_digits(out: &mut [u8], at: usize, t: &[u8])
 }
 
 // Puts the line of a number of n digits at at, and answers the place after it.
+#[tactic(auto, using(crate::proofs::Writing::line_put))]
 pub fn put_line(out: &mut [u8], at: usize, key: &[u8], n: usize, v: u64) -> usize
     requires { at + (length key.now + n + 1) ≤ length out.old }
     ensures value { result ≡ at + (length key.now + n + 1) }
@@ -150,6 +151,7 @@ pub fn put_line(out: &mut [u8], at: usize, key: &[u8], n: usize, v: u64) -> usiz
 }
 
 // Puts the line of one digit for each byte of t at at, and answers the place after it.
+#[tactic(auto, using(crate::proofs::Writing::digits_line_put))]
 pub fn put_digits_line(out: &mut [u8], at: usize, key: &[u8], t: &[u8]) -> usize
     requires { at + (length key.now + length t.now + 1) ≤ length out.old }
     ensures value { result ≡ at + (length key.now + length t.now + 1) }

@@ -9,5 +9,5 @@ pub returns : goal.returns
 unfolding low_bytes
 returns c =
     let a = c.args in
-    ap (λ (bytes : List ℕ). bytes ++ drop 8 a.part.now) (c.copy_from_slice.ensures.after ∙ c.to_le_bytes.ensures ∙ bytes_apart a.v)
+    ap (λ (bytes : List ℕ). bytes ++ drop 8 a.part.now) (c.copy_from_slice.ensures.after ∙ c.to_le_bytes-bytes.ensures ∙ bytes_apart a.v)
     ∙ sym (sets-eq (bytes_of a.v) a.part.now 0 (omega arith))

@@ -1,12 +1,13 @@
 -- The history's parts as the functions inside hold them, and the record of an effect.
-use Rattle.std.specs.Prelude.{ℕ, ◌*◌, ◌≤◌, ◌<◌, max, cond, List, [], ◌∷◌, eqb}
+use Rattle.std.specs.Prelude.{ℕ, ◌*◌, ◌≤◌, ◌<◌, max, cond, List}
 use Rattle.std.proofs.lemmas.List.Edits.{sets}
 use Rattle.memory.specs.Stores.{saved_bytes}
 use Rattle.machine.specs.declared.Cursor.{Cursor}
 use Rattle.machine.specs.State.{State}
 use Rattle.instructions.specs.Inside.Effects.{Effect, writes}
 use Rattle.history.specs.Ring.{History}
-use Rattle.history.specs.Records.{Entry}
+use Rattle.history.specs.declared.Entry.{Entry}
+use Rattle.history.specs.Records.{data_at}
 use Rattle.history.specs.Recording.{entry_for}
 
 abbrev pub history_of : List ℕ → Cursor → History
@@ -17,15 +18,11 @@ pub record CursorPlaced (c : ℕ) (cursor : Cursor) : Type 0 where
   pub next : cursor.next < max c 1
   pub held : cursor.held ≤ c
 
--- the words of a record
-abbrev pub slot_words : ℕ → ℕ → ℕ → ℕ → ℕ → ℕ → ℕ → List ℕ
-slot_words word0 value first a b c d = word0 ∷ value ∷ first ∷ a ∷ b ∷ c ∷ d ∷ 0 ∷ []
-
 -- what an effect is about to change
 abbrev pub entry_on : Effect → State → Entry
 entry_on e s = entry_for e.register e.granules e.first (writes e.change) s
 
 -- what an entry's data leaves of the bytes
-abbrev pub data_restored : Entry → ℕ → ℕ → List ℕ → List ℕ
-data_restored e first granules bytes =
-    cond (eqb e.saved 1) (sets bytes (16 * first) (saved_bytes granules e.a e.b e.c e.d)) bytes
+abbrev pub data_restored : Entry → List ℕ → List ℕ
+data_restored e bytes =
+    cond e.saved (sets bytes (16 * e.first) (saved_bytes e.granules (data_at e 0) (data_at e 1) (data_at e 2) (data_at e 3))) bytes

@@ -1,8 +1,7 @@
 -- `session_lines::keep` meets its contract: the numbers of the nine lines and the words, one behind the other, are one list. Assumes nothing.
 use Rattle.std.proofs.Common.{◌^◌, ◌<◌, sym, arith}
-use lib.Seq.{set-append_left}
+use Rattle.std.proofs.lemmas.List.{set-append_left, set-append_right}
 use Rattle.session_lines.proofs.LineFormats.{word_most}
-use Rattle.session_lines.proofs.Lists.{set_behind}
 use Rattle.session_lines.proofs.keep.Goals as goal
 
 pub overflow_cast-words : goal.overflow_cast-words
@@ -16,4 +15,4 @@ returns-then-i-lt9 c = let a = c.args in
 
 pub returns-else-i-lt9 : goal.returns-else-i-lt9
 returns-else-i-lt9 c = let a = c.args in
-    set_behind a.front.now a.words.now 9 a.i a.value (omega arith) (omega arith)
+    sym (set-append_right a.front.now a.words.now 9 a.i a.value (omega arith) (omega arith))

@@ -3,7 +3,7 @@ use Rattle.std.proofs.Common.{◌∙◌, arith, ap, sym}
 use Rattle.tag.specs.TagChoice.{walk}
 use Rattle.tag.proofs.TagChoice.{past_on, chosen_none, chosen_walk, walk_zero, turn_moves, turn_stays, turn_ends}
 use Rattle.tag.proofs.choose.Goals as goal
-use Rattle.tag.proofs.choose.Goals.{then-left-gt0, else-left-gt0, then-loop-tag-test+then-all_masked, else-loop-tag-test+then-left-eq0}
+use Rattle.tag.proofs.choose.Goals.{then-left-gt0, else-left-gt0}
 
 pub loop-tag-init : goal.loop-tag-init
 loop-tag-init c =
@@ -28,11 +28,10 @@ walk-preserved c =
     let e = turn_ends _ _ _ c.loop-tag.invariant.0 (sym c.is_masked.ensures ∙ c.loop-tag-test.false) c.loop-tag.invariant.1 in
     (c.loop-tag.invariant.0, chosen_walk _ _ _ e.0 c.if-left-eq0.false ∙ e.1)
 
-pub returns : goal.returns
-returns c =
-    elim c.loop-tag-test.branch [
-      | then-loop-tag-test+then-all_masked w ↦ w.tag-is ∙ sym (chosen_none _ _ _ w.if-all_masked.true)
-      | else-loop-tag-test+then-left-eq0 w ↦
-          let e = turn_ends _ _ _ c.loop-tag.invariant.0 (sym c.is_masked.ensures ∙ w.loop-tag-test.false) c.loop-tag.invariant.1 in
-          w.tag-is ∙ sym (walk_zero _ _ _ w.if-left-eq0.true) ∙ e.1
-    ]
+pub returns-then-all_masked : goal.returns-then-all_masked
+returns-then-all_masked c = sym (chosen_none _ _ _ c.if-all_masked.true)
+
+pub returns-then-left-eq0 : goal.returns-then-left-eq0
+returns-then-left-eq0 c =
+    let e = turn_ends _ _ _ c.loop-tag.invariant.0 (sym c.is_masked.ensures ∙ c.loop-tag-test.false) c.loop-tag.invariant.1 in
+    sym (walk_zero _ _ _ c.if-left-eq0.true) ∙ e.1

@@ -1,13 +1,9 @@
 -- `text::hex_at` meets its contract: a byte of the part is a byte of the text. Assumes nothing.
-use Rattle.std.proofs.Common.{arith, ℕ, List, ◌≡◌, ◌+◌, ◌-◌, ◌<◌, sym, ap, ◌∙◌, get_or, take, drop}
-use Rattle.std.proofs.lemmas.List.{get_or-take, get_or-drop}
+use Rattle.std.proofs.Common.{arith, ◌≡◌, ◌+◌, ◌-◌, sym, ap, ◌∙◌}
+use Rattle.std.proofs.lemmas.List.Edits.{get_or-between}
 use Rattle.text.specs.Hex.{read_hex, digit_value}
 use Rattle.text.proofs.Reading.{digit_small, read_turn, read_wrong, pow_turn, pow_room}
 use Rattle.text.proofs.hex_at.Goals as goal
-
--- a byte of a part is a byte of the whole
-inside : (s : List ℕ) (at n i : ℕ) → i < n → get_or (take (at + n - at) (drop at s)) i 0 ≡ get_or s (at + i) 0
-inside s at n i h = get_or-take (at + n - at) (drop at s) i 0 (omega arith) ∙ get_or-drop at s i 0
 
 pub overflow_mul-v : goal.overflow_mul-v
 overflow_mul-v c = omega (arith, pow_room c.args.n c.loop-b.b-index c.loop-b.v 0 (omega arith) (omega arith) c.loop-b.invariant.below (omega arith))
@@ -19,7 +15,7 @@ returns-in_err-v c =
     let none = sym (c.in_err-v.ensures) in
     c.from_residual.ensures
     ∙ sym (c.loop-b.invariant.rest
-    ∙ read_wrong a.s.now a.at a.n i c.loop-b.v (omega arith) (omega arith) (ap digit_value (sym (inside a.s.now a.at a.n i (omega arith))) ∙ none))
+    ∙ read_wrong a.s.now a.at a.n i c.loop-b.v (omega arith) (omega arith) (ap digit_value (sym (get_or-between a.s.now a.at (a.at + a.n) i 0 (omega arith))) ∙ none))
 
 pub overflow_add-v : goal.overflow_add-v
 overflow_add-v c =
@@ -34,7 +30,7 @@ loop-b-preserved c =
     record {
       below = pow_turn i c.loop-b.v c.in_ok-v.field-0 c.loop-b.invariant.below (digit_small _ _ some);
       rest = c.loop-b.invariant.rest
-          ∙ read_turn a.s.now a.at a.n i c.loop-b.v (omega arith) (omega arith) c.in_ok-v.field-0 (ap digit_value (sym (inside a.s.now a.at a.n i (omega arith))) ∙ some);
+          ∙ read_turn a.s.now a.at a.n i c.loop-b.v (omega arith) (omega arith) c.in_ok-v.field-0 (ap digit_value (sym (get_or-between a.s.now a.at (a.at + a.n) i 0 (omega arith))) ∙ some);
     }
 
 pub returns : goal.returns

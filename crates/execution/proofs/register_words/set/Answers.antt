@@ -1,18 +1,24 @@
--- `execution::register_words::set` meets its contract. Assumes nothing.
-use Rattle.machine.specs.declared.Code.TheVariants.{Done}
-use Rattle.machine.specs.State.{state_of}
-use Rattle.history.specs.Inside.StatusWords.{status_in}
-use Rattle.execution.specs.Calls.{returned}
-use Rattle.execution.proofs.RegisterRecords.{register_record}
+-- Assumes nothing.
+use Rattle.history.specs.Recording.{entry_for}
+use Rattle.execution.specs.Simulation.{standing}
+use Rattle.execution.proofs.Taking.{cursor_placed}
 use Rattle.execution.proofs.register_words.set.Goals as goal
 
-pub returns : goal.returns
-returns c =
-    let a = c.args in
-    λ settings bytes tags.
-    let record-words = register_record a.n a.status c.requires.ready.packed settings a.x.now bytes tags in
-    let history = rw (c.x_or_sp-old.ensures, record-words) at c.push-moved.ensures in
+pub push-requires : goal.push-requires
+push-requires c = cursor_placed (standing c.args.setup.now c.args.history.now) c.requires.formed
+
+pub returns-clause-taken : goal.returns-clause-taken
+unfolding entry_for
+returns-clause-taken c =
+    let s = c.args.setup.now in
+    let history = rw (c.words.ensures, c.x_or_sp.ensures) at c.push.ensures in
+    λ i.
     record {
-      same = λ i. returned Done 0 (record { state = state_of settings (c.write.ensures i) (status_in a.after) bytes tags; history = history i });
-      packed = c.requires.status;
+      state = record {
+        settings = s.machine.settings;
+        registers = record { x = c.write.ensures.x i; status = c.write.ensures.status i };
+        bytes = s.bytes.now;
+        tags = s.tags.now;
+      };
+      history = history i;
     }

@@ -1,67 +1,33 @@
--- `session_text::runner::run_on` meets its contract. Assumes nothing.
-use mathlib.Core.List.{List}
-use Prim.Native.Nat.{ℕ, ◌*◌}
-use mathlib.Core.List.{[], ◌++◌}
-use mathlib.Core.Path.{◌≡◌, sym, ap, ◌∙◌}
-use native.Mathlib.Omega.{arith}
-use lib.ListN.{length, get_or, take, drop, length-append}
-use lib.Seq.{sets, length-take-le, take_at}
+-- `session_text::runner::run_on` meets its contract: what is printed is what the run left. Assumes nothing.
+use Rattle.std.proofs.Common.{rules, ℕ, List, [], ◌+◌, ◌≤◌, ◌≡◌, sym, ap, ◌∙◌, arith, length}
+use Rattle.std.proofs.lemmas.List.Edits.{sets}
+use Rattle.machine.specs.declared.Code.{Code}
 use Rattle.machine.specs.declared.Machine.{Machine}
-use Rattle.execution.specs.Simulation.{simulation}
+use Rattle.machine.specs.declared.Setup.{Setup}
+use Rattle.execution.specs.Calls.{Returned, returned}
+use Rattle.execution.specs.Simulation.{Simulation, simulation, standing}
 use Rattle.execution.specs.Steps.{run_of}
+use Rattle.session_text.specs.Inside.Buffers.{Printed}
 use Rattle.session_text.specs.Printing.{report_text}
-use Rattle.session_text.specs.Run.{simulation_on, start_of}
 use Rattle.session_text.specs.Session.{ran_text}
 use Rattle.session_text.proofs.Printed.{report_long}
 use Rattle.session_text.proofs.runner.run_on.Goals as goal
 
--- as many tag bytes as come back from the run stand at the front of the tag bytes
-front : (n : ℕ) (tags rest : List ℕ) → length tags ≡ n → take n (tags ++ rest) ≡ tags
-front n tags rest few = take_at _ _ _ few
-
-front_long : (n : ℕ) (tags rest : List ℕ) → length tags ≡ n → length (take n (tags ++ rest)) ≡ n
-front_long n tags rest few = ap length (front n tags rest few) ∙ few
-
-pub slice_bounds-run-end-2 : goal.slice_bounds-run-end-2
-slice_bounds-run-end-2 c = sym (length-take-le _ _ (omega arith))
-
-pub slice_bounds-run-end-4 : goal.slice_bounds-run-end-4
-slice_bounds-run-end-4 c = sym (length-take-le _ _ (omega arith))
-
-pub slice_bounds-put_report-end : goal.slice_bounds-put_report-end
-slice_bounds-put_report-end c =
-    let few : length c.run-ran.new.tags ≡ get_or c.args.front.now 1 0 =
-    c.run-ran.auto.tags ∙ length-take-le _ _ (omega (arith, c.requires.fits.granules, c.requires.tags_len)) in
-    simp length-append (omega arith)
-
-pub slice_bounds-put_report-end-2 : goal.slice_bounds-put_report-end-2
-slice_bounds-put_report-end-2 c =
-    let few : length c.run-ran.new.tags ≡ get_or c.args.front.now 1 0 =
-    c.run-ran.auto.tags ∙ length-take-le _ _ (omega (arith, c.requires.fits.granules, c.requires.tags_len)) in
-    sym (front_long _ _ _ few)
-
-pub put_report-requires : goal.put_report-requires
-put_report-requires c =
-    let few : length c.run-ran.new.tags ≡ get_or c.args.front.now 1 0 =
-    c.run-ran.auto.tags ∙ length-take-le _ _ (omega (arith, c.requires.fits.granules, c.requires.tags_len)) in
-    omega (arith, front_long _ c.run-ran.new.tags (drop (get_or c.args.front.now 1 0) c.args.tags.now) few, c.requires.fits.granules, c.requires.in_bounds)
+told : (out after : List ℕ) (r count : ℕ) (code : Code) (tags : List ℕ) (setup : Setup) (words : List ℕ) (ran : Returned Simulation)
+    → r ≡ 110 + length tags → after ≡ sets out 0 (report_text count code setup.machine.registers tags)
+    → tags ≡ setup.tags.now → length tags ≤ 1024 → returned code count (standing setup words) ≡ ran
+    → Printed r out after (ran_text ran)
+told out after r count code tags setup words ran long put same few e =
+    let text : report_text count code setup.machine.registers tags ≡ ran_text ran
+    = ap (report_text count code setup.machine.registers) same ∙ ap ran_text e in
+    record {
+      count = long ∙ sym (report_long count code setup.machine.registers tags) ∙ ap length text;
+      most = omega arith;
+      put = put ∙ ap (sets out 0) text;
+    }
 
 pub returns : goal.returns
 returns c =
     let a = c.args in
-    let g = get_or a.front.now 1 0 in
-    let tags = c.run-ran.new.tags in
-    let whole = take g (tags ++ drop g a.tags.now) in
-    let result = c.run-ran.result in
-    let few : length c.run-ran.new.tags ≡ get_or c.args.front.now 1 0 =
-    c.run-ran.auto.tags ∙ length-take-le _ _ (omega (arith, c.requires.fits.granules, c.requires.tags_len)) in
-    let same : report_text result.count result.code result.machine.registers whole
-    ≡ ran_text (run_of (simulation_on (start_of a.front.now) a.bytes.now a.tags.now) a.words.now) =
-    ap (report_text result.count result.code result.machine.registers) (front g tags _ few)
-    ∙ ap ran_text (c.run-ran.ensures
-    ∙ ap (λ (machine : Machine). run_of (simulation machine (take (16 * g) a.bytes.now) (take g a.tags.now) []) a.words.now) c.machine_of-start.ensures) in
-    record {
-      count = c.put_report.ensures.value ∙ sym (report_long result.count result.code result.machine.registers whole) ∙ ap length same;
-      most = omega (arith, c.put_report.ensures.value, front_long g tags (drop g a.tags.now) few, c.requires.fits.granules);
-      put = c.put_report.ensures.out_after ∙ ap (sets a.out.now 0) same;
-    }
+    told _ _ _ _ _ _ c.run-ran.new.setup _ _ c.put_report.ensures.value c.put_report.ensures.out_after (search rules) (omega arith)
+    (c.run-ran.ensures.ran ∙ ap (λ (machine : Machine). run_of (simulation machine a.bytes.now a.tags.now []) a.words.now) c.machine-machine.ensures)

@@ -1,24 +1,26 @@
 -- `simulator::playing::play` meets its contract: both promises. Assumes nothing.
-use Rattle.std.proofs.Common.{rules, sym, ◌∙◌}
-use Rattle.machine.specs.State.{Typed, with_memory}
+use Rattle.std.proofs.lemmas.Result.{err_from_is_err_and}
 use Rattle.simulator.proofs.AsPlain.{as_plain}
-use Rattle.simulator.proofs.Lists.{is_done_lem, not_refused, when_done_lem, when_refused}
+use Rattle.simulator.proofs.Lists.{not_refused, when_played, when_refused}
 use Rattle.simulator.proofs.playing.play.Goals as goal
 
-pub returns-then-number-ne0 : goal.returns-then-number-ne0
-returns-then-number-ne0 c =
-    let typed : Typed (with_memory c.args.machine c.args.bytes.now c.args.tags.now) =
-    record { seed = c.seed_is_short.ensures; bytes = λ i. search rules; tags = λ i. search rules } in
-    let p = when_refused _ _ _ _ _ _ c.list_code-code.ensures (λ done. c.if-number-ne0.true (c.number.ensures ∙ done)) in
-    record { after_after = p; fact = as_plain _ _ _ _ _ _ typed p }
+pub returns-in_err-count-clause-played : goal.returns-in_err-count-clause-played
+returns-in_err-count-clause-played c =
+    let p = err_from_is_err_and c.from_residual.result c.from_residual.ensures.1 in
+    rw (p.1, p.2) (when_refused _ _ _ _ _ _ c.in_err-count.ensures)
 
-pub play_list-after-requires : goal.play_list-after-requires
-play_list-after-requires c =
-    not_refused _ _ _ _ (sym c.list_code-code.ensures ∙ is_done_lem _ (sym c.number.ensures ∙ c.if-number-ne0.false))
+pub returns-in_err-count-clause-as_plain : goal.returns-in_err-count-clause-as_plain
+returns-in_err-count-clause-as_plain c =
+    let p = err_from_is_err_and c.from_residual.result c.from_residual.ensures.1 in
+    as_plain _ _ _ _ _ _ c.is_typed.ensures (rw (p.1, p.2) (when_refused _ _ _ _ _ _ c.in_err-count.ensures))
 
-pub returns : goal.returns
-returns c =
-    let typed : Typed (with_memory c.args.machine c.args.bytes.now c.args.tags.now) =
-    record { seed = c.seed_is_short.ensures; bytes = λ i. search rules; tags = λ i. search rules } in
-    let p = when_done_lem _ _ _ _ _ _ c.list_code-code.ensures (sym c.number.ensures ∙ c.if-number-ne0.false) _ _ _ c.play_list-after.ensures in
-    record { after_after = p; fact = as_plain _ _ _ _ _ _ typed p }
+pub play_list-requires : goal.play_list-requires
+play_list-requires c = (not_refused _ _ _ _ _ c.in_ok-count.ensures).0
+
+pub returns-clause-played : goal.returns-clause-played
+returns-clause-played c = when_played _ _ _ _ _ _ c.in_ok-count.ensures _ _ _ c.play_list.ensures.wrote
+
+pub returns-clause-as_plain : goal.returns-clause-as_plain
+returns-clause-as_plain c =
+    as_plain _ _ _ _ _ _ c.is_typed.ensures
+    (when_played _ _ _ _ _ _ c.in_ok-count.ensures _ _ _ c.play_list.ensures.wrote)

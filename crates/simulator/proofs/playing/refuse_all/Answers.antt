@@ -1,15 +1,9 @@
 -- `simulator::playing::refuse_all` meets its contract. Assumes nothing.
-use Rattle.std.proofs.Common.{sym, ◌∙◌, arith, length-set}
-use Rattle.simulator.proofs.Setups.{fill_on}
+use Rattle.simulator.proofs.Setups.{filled}
 use Rattle.simulator.proofs.playing.refuse_all.Goals as goal
 
-pub loop-place-preserved : goal.loop-place-preserved
-loop-place-preserved c =
-    let inv = c.loop-place.invariant in
-    let inside = c.loop-place-test.true in (
-      simp length-set inv.0,
-      simp length-set inv.1,
-      omega arith,
-      rw c.number.ensures (sym (fill_on _ _ _ _ inside) ∙ inv.3),
-      sym (fill_on _ _ _ _ inside) ∙ inv.4,
-    )
+pub returns-clause-codes_after : goal.returns-clause-codes_after
+returns-clause-codes_after c = filled _ _ _ _ c.requires.codes_enough (c.fill.ensures.after (λ y e. e))
+
+pub returns-clause-counts_after : goal.returns-clause-counts_after
+returns-clause-counts_after c = filled _ _ _ _ c.requires.counts_enough (c.fill-2.ensures.after (λ y e. e))
