@@ -9,17 +9,17 @@ pub(crate) const MOST_WORDS: usize = 65536;
 const MOST_BACKS: usize = 1024;
 
 // As many as a list has if each word is a step.
-pub(crate) const MOST_CALLS: usize = 66560;
+pub(crate) const MOST_CALLS: usize = MOST_WORDS + MOST_BACKS;
 
 pub(crate) const MOST_SLOTS: usize = 1024;
 
 pub(crate) const MOST_GRANULES: usize = 1024;
 
-// So many bytes come before the words.
-const HEAD: usize = 352;
+// So many bytes come before the words: 44 numbers.
+const HEAD: usize = 8 * 44;
 
 // A byte more than the longest workload has, so that a longer one is seen.
-pub(crate) const ROOM: usize = 262497;
+pub(crate) const ROOM: usize = HEAD + 4 * MOST_WORDS + 1;
 
 // What a round makes: a run, a step for each word, or a list with a run or a step for each word, and steps back.
 #[derive(Clone, Copy, Debug, PartialEq, Eq)]
@@ -164,7 +164,7 @@ pub(crate) fn read(input: &[u8], words: &mut [u32; MOST_WORDS]) -> Option<Head> 
 
 // Puts the calls of a list: those that take its words, a run or a step for each, and the steps back; answers how many they are.
 pub(crate) fn put_calls(head: &Head, calls: &mut [Call; MOST_CALLS]) -> usize
-    ensures { result ≤ 66560 }
+    ensures { result ≤ MOST_CALLS }
 {
     let taking = if head.kind == Kind::ListOfARun {
         calls[0] = Call::Run(head.words);
