@@ -2,6 +2,9 @@
 // (docs/MANUAL.md, "The benchmark").
 #![tactic(auto)]
 
+ghost use Rattle.std.specs.Prelude.{◌≡◌};
+ghost use Rattle.checksum.specs.Checksum.{with_numbers};
+
 use machine::{Code, Setup};
 use rounds::{Answers, Lists};
 use simulator::Call;
@@ -18,6 +21,14 @@ struct End {
     sum: u64,
 }
 
+fn memories_sum(sum: u64, tags: &[u8], bytes: &[u8], history: &[u64]) -> u64
+    ensures { result ≡ with_numbers (with_numbers (with_numbers sum tags.now) bytes.now) history.now }
+{
+    let sum = checksum::with_numbers(sum, tags);
+    let sum = checksum::with_numbers(sum, bytes);
+    checksum::with_numbers(sum, history)
+}
+
 fn state_sum(setup: &Setup<'_>, history: &[u64]) -> u64 {
     let status = setup.machine.registers.status;
     let cursor = setup.machine.cursor;
@@ -25,9 +36,7 @@ fn state_sum(setup: &Setup<'_>, history: &[u64]) -> u64 {
     let sum = checksum::with_numbers(sum, &[status.nzcv, status.rgsr]);
     let sum = checksum::with_number(sum, u64::from(status.seed));
     let sum = checksum::with_numbers(sum, &[cursor.next as u64, cursor.held as u64]);
-    let sum = checksum::with_numbers(sum, &*setup.tags);
-    let sum = checksum::with_numbers(sum, &*setup.bytes);
-    checksum::with_numbers(sum, history)
+    memories_sum(sum, setup.tags, setup.bytes, history)
 }
 
 // Goes through a workload's rounds on as many granules and slots as it asks for.

@@ -1,10 +1,11 @@
 // When a record breaks a rule.
-ghost use Rattle.std.specs.Prelude.{◌≡◌};
+ghost use Rattle.std.specs.Prelude.{◌≡◌, ◌≤◌, length};
 ghost use Rattle.history.specs.BadRecords.{beyond, data_not_zero, data_of_none, gap_not_zero, malformed, out_of_range, tags_not_zero, value_not_zero};
 
 use super::Entry;
 
-fn is_gap_used(part: &[u64; 8]) -> bool
+fn is_gap_used(part: &[u64]) -> bool
+    requires { 8 ≤ length part.now }
     ensures { result ≡ gap_not_zero part.now }
 {
     let w = part[0];
@@ -59,7 +60,8 @@ impl Entry {
 
 // Whether the record breaks a rule, where there are so many granules.
 #[tactic(auto, unfolding(crate::specs::BadRecords::malformed))]
-pub fn is_malformed(part: &[u64; 8], granules: usize) -> bool
+pub fn is_malformed(part: &[u64], granules: usize) -> bool
+    requires { 8 ≤ length part.now }
     ensures { result ≡ malformed granules part.now }
 {
     let entry = Entry::of_words(part);

@@ -126,7 +126,8 @@ fn restore_data(bytes: &mut [u8], entry: Entry)
 
 // Puts back what a record holds: data, tags, the register and the status.
 #[tactic(auto, using(crate::proofs::Rules::accepted), unfolding(crate::specs::Recording::restored, crate::specs::Records::entry_in))]
-pub fn restore(setup: &mut Setup<'_>, part: &[u64; 8])
+pub fn restore(setup: &mut Setup<'_>, part: &[u64])
+    requires in_bounds { 8 ≤ length part.now }
     requires part_value { malformed (length setup.old.tags.now) part.now ≡ false }
     requires bytes_len { length setup.old.bytes.now ≡ 16 * length setup.old.tags.now }
     ensures loans { SameLoans setup.old setup.new }

@@ -1,5 +1,5 @@
 // The record of eight words, and what its places hold.
-ghost use Rattle.std.specs.Prelude.{◌≡◌, ◌≤◌};
+ghost use Rattle.std.specs.Prelude.{◌≡◌, ◌≤◌, length};
 ghost use Rattle.history.specs.Records.{entry_in, words_of};
 
 use super::Entry;
@@ -29,7 +29,8 @@ impl Entry {
 
     // What the places of a record hold, whether or not it keeps the rules.
     #[tactic(auto, unfolding(crate::specs::Records::entry_in))]
-    pub(crate) fn of_words(part: &[u64; 8]) -> Entry
+    pub(crate) fn of_words(part: &[u64]) -> Entry
+        requires { 8 ≤ length part.now }
         ensures { result ≡ entry_in part.now }
     {
         let w = part[0];

@@ -50,10 +50,6 @@ fn up_to(v: u64, most: usize) -> Option<usize> {
     usize::try_from(v).ok().filter(|n| *n <= most)
 }
 
-fn below(v: u64, end: usize) -> Option<usize> {
-    usize::try_from(v).ok().filter(|n| *n < end)
-}
-
 fn setting(text: &[u8]) -> Option<Setting> {
     let (kind, [a, b, ..]) = find(&SETTINGS, text)?;
     Some(match kind {
@@ -68,11 +64,11 @@ fn setting(text: &[u8]) -> Option<Setting> {
         SettingKind::Tags => Setting::Tags(up_to(a, MOST_TAGS)?),
         SettingKind::Data => Setting::Data(up_to(a, MOST_DATA)?),
         SettingKind::History => Setting::History(up_to(a, MOST_HISTORY)?),
-        SettingKind::X => Setting::X(below(a, 32)?, b),
-        SettingKind::Tag => Setting::Tag(below(a, MOST_TAGS)?, u8::try_from(b).ok()?),
-        SettingKind::Byte => Setting::Byte(below(a, MOST_DATA)?, u8::try_from(b).ok()?),
-        SettingKind::Log => Setting::Log(below(a, MOST_HISTORY)?, b),
-        SettingKind::List => Setting::List(below(a, MOST_LISTED)?, u32::try_from(b).ok()?),
+        SettingKind::X => Setting::X(up_to(a, 31)?, b),
+        SettingKind::Tag => Setting::Tag(up_to(a, MOST_TAGS - 1)?, u8::try_from(b).ok()?),
+        SettingKind::Byte => Setting::Byte(up_to(a, MOST_DATA - 1)?, u8::try_from(b).ok()?),
+        SettingKind::Log => Setting::Log(up_to(a, MOST_HISTORY - 1)?, b),
+        SettingKind::List => Setting::List(up_to(a, MOST_LISTED - 1)?, u32::try_from(b).ok()?),
     })
 }
 
