@@ -1,8 +1,6 @@
 -- What the code of an access tells, and a place that was found. Assumes nothing.
 use Rattle.std.proofs.Common.{◌≡◌, ℕ, ◌+◌, ◌*◌, ◌%◌, ◌<◌, ◌≤◌, Bool, true, false, cond, not, ◌&&◌, eqb, refl, arith, eq-eqb, ne_eqb, eqb-true, Ok, Err}
 use mathlib.Core.Bool.{and-false}
-use Rattle.isa.specs.declared.Mode.{Mode}
-use Rattle.isa.specs.declared.Mode.TheVariants.{Post, Pre, Offset}
 use Rattle.memory.specs.declared.LocateError.{LocateError}
 use Rattle.memory.specs.declared.LocateError.TheVariants.{Outside as NoGranule}
 use Rattle.memory.specs.Locations.{all_inside, granule_of, index_of, onward}
@@ -12,7 +10,7 @@ use Rattle.memory.proofs.Locations.{located, within}
 use Rattle.machine.specs.declared.Code.{Code}
 use Rattle.machine.specs.declared.Code.TheVariants.{Done, SpAlign, Align, Outside}
 use Rattle.machine.specs.Codes.{lowest, is_done}
-use Rattle.instructions.specs.Accesses.{access, address_of, rounded_down}
+use Rattle.instructions.specs.Accesses.{access, rounded_down}
 use Rattle.instructions.specs.Inside.Places.{access_code, placed_by, store_place, load_place}
 
 -- an access that has code 0 is aligned, and its granules are inside
@@ -80,9 +78,6 @@ module _ (base g n rn address multiple granules : ℕ) (stores : Bool)
 pub sp_aligned : (n rn : ℕ) → rn % 16 ≡ 0 → (eqb n 31 && not (eqb (rn % 16) 0)) ≡ false
 sp_aligned n rn h = rw (eq-eqb (rn % 16) 0 h) (and-false (eqb n 31))
 
-onward_aligned : (rn amount : ℕ) → amount % 16 ≡ 0 → onward rn amount % 16 ≡ rn % 16
-onward_aligned rn amount z = omega arith
-
 -- all the granules named are inside
 
 pub store_inside : (base g n rn address granules i : ℕ) → sizes_ok base (16 * g) g ≡ true → 1 ≤ granules
@@ -98,9 +93,3 @@ load_inside base g n rn amount i ok h =
     let p = placed_first (access_code base g (access n rn address 1 1 false)) (index_of base address) i h in
     let q = accepted base g n rn address 1 1 false p.0 in
     omega (arith, p.1, (within base (16 * g) g 1 address (sized base (16 * g) g ok) (λ two. absurd (omega arith)) q.1 (omega arith)).1)
-
--- a store's address is aligned as its base register is
-pub address_aligned : (mode : Mode) (rn amount : ℕ) → amount % 16 ≡ 0 → address_of mode rn amount % 16 ≡ rn % 16
-address_aligned Post rn amount z = refl
-address_aligned Pre rn amount z = onward_aligned rn amount z
-address_aligned Offset rn amount z = onward_aligned rn amount z

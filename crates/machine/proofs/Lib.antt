@@ -1,4 +1,3 @@
 -- Laws of the definitions, for the proofs here and in the crates above.
 pub mod LowestCode
-pub mod Parts
 pub mod Rules

@@ -30,7 +30,3 @@ pub setup_state : (m : Machine) (bytes g words : ℕ) → setup_ok m bytes g wor
 unfolding setup_ok
 setup_state m bytes g words h =
     ((and-eq-true_iff (state_ok m.settings m.registers.status bytes g) (cursor_ok (slots_of words) m.cursor)).0 h).0
-
-pub setup_status : (m : Machine) (bytes g words : ℕ) → setup_ok m bytes g words ≡ true
-    → (m.registers.status.nzcv ≤ 15) × (m.registers.status.rgsr ≤ 15)
-setup_status m bytes g words h = state_status m.settings m.registers.status bytes g (setup_state m bytes g words h)
