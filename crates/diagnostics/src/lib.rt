@@ -80,6 +80,7 @@ fn tell(rt: &HostRuntime, source: Source, text: &[u8], why: Refusal) {
 // Reads into the room, and hands on what was read.
 fn read_into<F: FnOnce(&[u8])>(rt: &HostRuntime, room: &mut [u8], failed: &[u8], convert: F)
     requires { F.IsAlwaysCallable convert }
+    ensures { (input : _) × F.post convert input tt }
 {
     let n = stdio::read(rt, room, failed);
     convert(&room[..n]);
@@ -88,6 +89,7 @@ fn read_into<F: FnOnce(&[u8])>(rt: &HostRuntime, room: &mut [u8], failed: &[u8],
 // Lends the array as a slice, here where its type says how long it is.
 fn lend<F: FnOnce(&[u8])>(rt: &HostRuntime, room: &mut [u8; ROOM], failed: &[u8], convert: F)
     requires { F.IsAlwaysCallable convert }
+    ensures { (input : _) × F.post convert input tt }
 {
     read_into(rt, room, failed, convert);
 }
@@ -95,6 +97,7 @@ fn lend<F: FnOnce(&[u8])>(rt: &HostRuntime, room: &mut [u8; ROOM], failed: &[u8]
 // Reads standard input, and hands it to what converts it. A read that fails is told by the line failed.
 pub fn with_input<F: FnOnce(&[u8])>(rt: &HostRuntime, failed: &[u8], convert: F)
     requires { F.IsAlwaysCallable convert }
+    ensures { (input : _) × F.post convert input tt }
 {
     let mut room = [0; ROOM];
     lend(rt, &mut room, failed, convert);
