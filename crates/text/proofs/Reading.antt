@@ -10,6 +10,7 @@ use native.Mathlib.Omega.{arith}
 use lib.ListN.{length, get_or, take, drop}
 use lib.Seq.{drop-cons}
 use lib.Dec.{eqb}
+use borrow.Author.Tests.{eq-eqb, ne_eqb}
 use Rattle.std.proofs.lemmas.Bool.Decides.{nat_tests}
 use Rattle.text.specs.Hex.{digit_value, read_hex}
 use Rattle.text.specs.Lines.{starts}
@@ -45,6 +46,18 @@ pub pow_room : (n i v d : ℕ) → n ≤ 16 → i < n → v < 16 ^ i → d < 16 
 pow_room n i v d most h k small =
     let top : 16 ^ (i + 1) ≤ 16 ^ 16 = pow-le-pow_right {n = 16} (omega arith) {i = i + 1} {j = 16} (omega arith) in
     omega (arith, pow_turn i v d k small)
+
+-- a byte of a key more, and a byte that is another
+module _ (key s : List ℕ) (at i : ℕ) (h : i < length key) (room : at + length key ≤ length s) where
+  pub starts_turn : get_or key i 0 ≡ get_or s (at + i) 0 → starts (drop i key) (drop (at + i) s) ≡ starts (drop (i + 1) key) (drop (at + (i + 1)) s)
+  unfolding starts
+  starts_turn e =
+      let next : suc (at + i) ≡ at + (i + 1) = omega arith in
+      rw (← next, add-one, drop-cons key i 0 h, drop-cons s (at + i) 0 (omega arith), eq-eqb _ _ e)
+
+  pub starts_wrong : (get_or key i 0 ≡ get_or s (at + i) 0 → ⊥) → starts (drop i key) (drop (at + i) s) ≡ false
+  unfolding starts
+  starts_wrong e = rw (drop-cons key i 0 h, drop-cons s (at + i) 0 (omega arith), ne_eqb _ _ e)
 
 -- the library's test is the definition's
 and_as_cond : (t u : Bool) → cond t u false ≡ (t && u)

@@ -44,6 +44,12 @@ digits_turn l at i rest g e =
 pub bytes_put : (l : List ℕ) (at n : ℕ) (t u : List ℕ) → u ≡ t → n ≡ length t → at + length t ≤ length l → put_mid at n l u ≡ sets l at t
 bytes_put l at n t u e long room = rw (e, long, drop-drop, ← append_assoc) (sym (sets-eq t l at room))
 
+pub bytes_turn : (l : List ℕ) (at : ℕ) (t : List ℕ) (i : ℕ) → i < length t
+    → sets l (at + i) (drop i t) ≡ sets (set l (at + i) (get_or t i 0)) (at + (i + 1)) (drop (i + 1) t)
+bytes_turn l at t i h =
+    let next : at + suc i ≡ suc (at + i) = omega arith in
+    rw (add-one, drop-cons t i 0 h, next)
+
 pub digits_text_turn : (l : List ℕ) (at : ℕ) (t : List ℕ) (i g : ℕ) → i < length t → g ≡ digit_of (get_or t i 0 % 16)
     → sets l (at + i) (digits_text (drop i t)) ≡ sets (set l (at + i) g) (at + (i + 1)) (digits_text (drop (i + 1) t))
 unfolding digits_text

@@ -54,12 +54,16 @@ pub fn hex_at(s: &[u8], at: usize, n: usize) -> Option<u64>
 }
 
 // Whether the key stands at at.
-#[tactic(auto, using(crate::proofs::Reading::starts_from))]
 pub fn key_at(s: &[u8], at: usize, key: &[u8]) -> bool
     requires { at + length key.now ≤ length s.now }
     ensures { result ≡ starts key.now (drop at s.now) }
 {
-    s[at..].starts_with(key)
+    for (i, k) in key.iter().enumerate() {
+        if *k != s[at + i] {
+            return false;
+        }
+    }
+    true
 }
 
 // Whether the key, n bytes and a line feed stand at at.
@@ -104,13 +108,14 @@ pub fn put_hex(out: &mut [u8], at: usize, n: usize, v: u64)
     }
 }
 
-// Puts the bytes of t at at.
-#[tactic(auto, using(crate::proofs::Writing::bytes_put))]
+// Puts the bytes of t at at, one by one: `copy_from_slice` would make the archives for C need another name from outside.
 pub fn put_bytes(out: &mut [u8], at: usize, t: &[u8])
     requires { at + length t.now ≤ length out.old }
     ensures { out.new ≡ sets out.old at t.now }
 {
-    out[at..at + t.len()].copy_from_slice(t);
+    for (i, b) in t.iter().enumerate() {
+        out[at + i] = *b;
+    }
 }
 
 // Puts the bytes of t at at if they fit in the room left there, and answers whether they did.
