@@ -40,7 +40,7 @@ use Rattle.listing.specs.Lines.{tag_store_row, row_of, fields_of, line_of}
 use Rattle.listing.specs.Reading.{same_text, is_line_of, read_below, read_of}
 use Rattle.listing.specs.declared.ReadError.{ReadError}
 use Rattle.listing.specs.declared.ReadError.TheVariants.{BadLine}
-use Rattle.listing.proofs.Lengths.{row_small}
+use Rattle.listing.proofs.Lengths.{line_short, row_small}
 
 -- the form of the row and the fields that a line's template takes over is the form
 
@@ -196,6 +196,17 @@ row_only s None w h = absurd cc
 method_only : (s : List ℕ) (w : ℕ) → read_by_method s ≡ Ok w → Says s w
 unfolding read_by_method
 method_only s w h = row_only s (row_from templates s 0) w h
+
+-- so no text that is longer than every line
+pub method_long : (s : List ℕ) → 100 < length s → read_by_method s ≡ Err BadLine
+method_long s h = go (read_by_method s) refl
+  where
+    no_line : (w : ℕ) → Says s w → ⊥
+    no_line w (f, e, k, l) = absurd (omega (arith, h, line_short f, ap length k))
+
+    go : (r : Result ℕ ReadError) → read_by_method s ≡ r → r ≡ Err BadLine
+    go (Ok w) e = absurd (no_line w (method_only s w e))
+    go (Err BadLine) e = refl
 
 -- the definition: the word below n whose line the text is
 

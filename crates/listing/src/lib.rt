@@ -94,6 +94,7 @@ impl<'a> Listing<'a> {
     // Puts the word's line at the listing's place, which is then the place behind it. A refusal writes nothing and keeps the place.
     pub fn list(&mut self, word: u32)
         ensures same_borrow { self.new.out.ghost_name ≡ self.old.out.ghost_name }
+        ensures same_place { self.new.out.ref_ptr ≡ self.old.out.ref_ptr }
         ensures listed { so_far self.new ≡ listed_at self.old.out.now self.old.at word }
     {
         let listed = list_at(self.out, self.at, word);
@@ -151,11 +152,15 @@ fn read_form(text: &[u8], form: Form) -> Result<u32, ReadError>
     isa::encode(form).ok_or(ReadError::BadLine)
 }
 
-// The word whose line a text is, line feed and all. The fields are read loosely, and the line is then written anew and compared.
+// The word whose line a text is, line feed and all. The fields are read loosely, and the line is then written anew and compared; no line
+// is longer than 100 bytes, so that a long text is refused at once.
 #[tactic(auto, using(crate::proofs::ByMethod::by_method), unfolding(crate::specs::Inside::Method::read_by_method))]
 pub fn read_line(text: &[u8]) -> Result<u32, ReadError>
     ensures { result ≡ read_of text.now }
 {
+    if text.len() > 100 {
+        return Err(ReadError::BadLine);
+    }
     let read = templates::reader::first_row(text).ok_or(ReadError::BadLine)?;
     read_form(text, lines::form_at(read.row, read.fields))
 }

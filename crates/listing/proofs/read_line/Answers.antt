@@ -2,8 +2,11 @@ use Rattle.std.proofs.Common.{◌≡◌, ◌∙◌, ap, sym, Some, None, arith}
 use Rattle.std.proofs.lemmas.Result.{err_from_is_err_and}
 use Rattle.listing.specs.Inside.Method.{read_form}
 use Rattle.listing.specs.declared.ReadError.TheVariants.{BadLine}
-use Rattle.listing.proofs.ByMethod.{by_method, by_row}
+use Rattle.listing.proofs.ByMethod.{by_method, by_row, method_long}
 use Rattle.listing.proofs.read_line.Goals as goal
+
+pub returns-then-text-gt100 : goal.returns-then-text-gt100
+returns-then-text-gt100 c = sym (method_long c.args.text.now (omega arith)) ∙ by_method c.args.text.now
 
 pub returns-in_err-read : goal.returns-in_err-read
 returns-in_err-read c =
