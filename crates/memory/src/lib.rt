@@ -26,6 +26,16 @@ impl From<LocateError> for u32 {
     }
 }
 
+// The code of what an address names: 0 where it has a first granule, or the number of its refusal.
+pub fn locate_code(located: Result<usize, LocateError>) -> u32
+    ensures { result ≡ granule_code located }
+{
+    match located {
+        Ok(_) => 0,
+        Err(error) => u32::from(error),
+    }
+}
+
 // Whether the sizes and the base keep the rule of the setup.
 #[tactic(auto, using(crate::proofs::Sizes::sum_below), unfolding(crate::specs::Sizes::sizes_ok))]
 pub fn sizes_ok(base: u64, bytes: usize, granules: usize) -> bool

@@ -11,7 +11,7 @@ ghost use Rattle.execution.specs.Simulation.{standing};
 ghost use Rattle.execution.specs.Steps.{run_of, step_back_of, step_of};
 
 use machine::{Code, Setup};
-pub use playing::{Call, PlayError, play};
+pub use playing::{Call, PlayError, play, play_code};
 pub use stepping::Ran;
 
 mod playing;

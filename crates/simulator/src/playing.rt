@@ -7,7 +7,7 @@ ghost use Rattle.execution.specs.Calls.{call, returned};
 ghost use Rattle.execution.specs.Simulation.{standing, well_formed};
 ghost use Rattle.execution.specs.Steps.{simulator};
 ghost use Rattle.simulator.specs.Inside.Playing.{Lent, Wrote};
-ghost use Rattle.simulator.specs.Playing.{AsPlain, all_taken, call_of, play_of, play_result, played, words_taken};
+ghost use Rattle.simulator.specs.Playing.{AsPlain, all_taken, call_of, play_number, play_of, play_result, played, words_taken};
 
 use super::{Ran, uncounted};
 use machine::{Code, Setup};
@@ -52,6 +52,16 @@ impl From<PlayError> for u32 {
             PlayError::NoRoom => 10,
             PlayError::NoWords => 15,
         }
+    }
+}
+
+// The code of a list: 0 if it was played, or the number of its refusal.
+pub fn play_code(played: Result<usize, PlayError>) -> u32
+    ensures { result ≡ play_number played }
+{
+    match played {
+        Ok(_) => 0,
+        Err(error) => u32::from(error),
     }
 }
 

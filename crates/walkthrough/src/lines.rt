@@ -65,10 +65,8 @@ pub(crate) fn write_list(
 ) {
     let mut out =
         *b"list: code 0, 0 calls played with codes 0 0 0 0 0 0 0 0, x0 = 0000000000000000\n";
-    match played {
-        Ok(count) => text::put_hex(&mut out, 14, 1, count as u64),
-        Err(error) => text::put_hex(&mut out, 11, 1, u64::from(u32::from(error))),
-    }
+    text::put_hex(&mut out, 11, 1, u64::from(simulator::play_code(played)));
+    text::put_hex(&mut out, 14, 1, played.unwrap_or(0) as u64);
     for (i, code) in codes.iter().enumerate() {
         text::put_hex(&mut out, 40 + 2 * i, 1, code_number(*code));
     }
