@@ -205,21 +205,17 @@ fn carry_out(setup: &mut Setup<'_>, e: Store, history: &mut [u64]) -> Result<(),
     Ok(())
 }
 
-// Data that is zeroed or not.
-fn zeroed_if(zeroes: bool) -> DataChange
-    ensures { change_in result ≡ zeroed_if zeroes }
-{
-    if zeroes {
-        DataChange::Zeroed
-    } else {
-        DataChange::Kept
-    }
-}
-
-// STG, STZG, ST2G, STZ2G: two granules if bit 23 is one, zeroed if bit 22 is.
+// A tag store, of which it is known what becomes of the data: two granules if bit 23 is one.
 #[inline(always)]
-fn tag_store(setup: &mut Setup<'_>, mode: Mode, w: u64, history: &mut [u64]) -> Result<(), Code>
-    requires { well_formed (standing setup.old history.old) ≡ true }
+fn tag_store_with(
+    setup: &mut Setup<'_>,
+    mode: Mode,
+    change: DataChange,
+    w: u64,
+    history: &mut [u64],
+) -> Result<(), Code>
+    requires change { change_in change ≡ zeroed_if (bits_at w 22 1 == 1) }
+    requires formed { well_formed (standing setup.old history.old) ≡ true }
     ensures loans { SameLoans setup.old setup.new }
     ensures taken { let after = standing setup.new history.new in
         Took result (decoded_taken (Some (tag_store_at (op_in w) mode w))) (standing setup.old history.old) after }
@@ -231,12 +227,27 @@ fn tag_store(setup: &mut Setup<'_>, mode: Mode, w: u64, history: &mut [u64]) -> 
         amount: decoder::signed(bits::field(w, 12, 9), 256),
         granules: 1,
         tag: Tag::of(setup.machine.registers.x_or_sp(t)),
-        change: zeroed_if(bits::field(w, 22, 1) == 1),
+        change,
     };
     if bits::field(w, 23, 1) == 1 {
         carry_out(setup, Store { granules: 2, ..e }, history)
     } else {
         carry_out(setup, e, history)
+    }
+}
+
+// STG, STZG, ST2G, STZ2G: the data is zeroed if bit 22 is one. Each of the four is compiled by itself, as for one granule and for two.
+#[inline(always)]
+fn tag_store(setup: &mut Setup<'_>, mode: Mode, w: u64, history: &mut [u64]) -> Result<(), Code>
+    requires { well_formed (standing setup.old history.old) ≡ true }
+    ensures loans { SameLoans setup.old setup.new }
+    ensures taken { let after = standing setup.new history.new in
+        Took result (decoded_taken (Some (tag_store_at (op_in w) mode w))) (standing setup.old history.old) after }
+{
+    if bits::field(w, 22, 1) == 1 {
+        tag_store_with(setup, mode, DataChange::Zeroed, w, history)
+    } else {
+        tag_store_with(setup, mode, DataChange::Kept, w, history)
     }
 }
 

@@ -106,9 +106,10 @@ pub fn push(history: &mut [u64], cursor: &mut Cursor, part: [u64; 8])
     if slots == 0 {
         return;
     }
-    let at = 8 * cursor.next;
-    write(&mut history[at..], part);
-    *cursor = advance(*cursor, slots);
+    // read once: behind the stores it would be read again
+    let place = *cursor;
+    write(&mut history[8 * place.next..], part);
+    *cursor = advance(place, slots);
 }
 
 // Puts back the data that a record holds, if it holds any.
