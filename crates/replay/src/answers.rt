@@ -27,15 +27,32 @@ fn front(player: &Player<'_>) -> [(SettingKind, u64); 11] {
     ]
 }
 
-// Puts a line of a kind for each item that is not zero.
-fn put_items<T: Copy>(writer: &mut Writer<'_>, kind: SettingKind, items: &[T])
+// How many items are looked at together. Mostly they are all zero.
+const ROW: usize = 64;
+
+// Puts a line of a kind for each item that is not zero, from the row of that number on.
+fn put_row<T: Copy>(writer: &mut Writer<'_>, kind: SettingKind, row: usize, items: &[T])
 where
     u64: From<T>,
 {
     for (index, item) in items.iter().enumerate() {
         let value = u64::from(*item);
         if value != 0 {
-            writer.put(kind, &[index as u64, value]);
+            let first = (row as u64).wrapping_mul(ROW as u64);
+            writer.put(kind, &[first.wrapping_add(index as u64), value]);
+        }
+    }
+}
+
+// Puts a line of a kind for each item that is not zero.
+fn put_items<T: Copy>(writer: &mut Writer<'_>, kind: SettingKind, items: &[T])
+where
+    u64: From<T>,
+{
+    for (row, part) in items.chunks(ROW).enumerate() {
+        let any = part.iter().fold(0, |any, item| any | u64::from(*item));
+        if any != 0 {
+            put_row(writer, kind, row, part);
         }
     }
 }
@@ -61,11 +78,8 @@ pub(crate) fn put_code(writer: &mut Writer<'_>, code: Code, count: Option<usize>
 
 // Puts the code of a list of calls, and how many were played. A refused list has played none.
 pub(crate) fn put_played(writer: &mut Writer<'_>, played: Result<usize, PlayError>) {
-    let (code, count) = match played {
-        Ok(count) => (0, count),
-        Err(error) => (u32::from(error), 0),
-    };
-    writer.put(AnswerKind::Played, &[u64::from(code), count as u64]);
+    let code = u64::from(simulator::play_code(played));
+    writer.put(AnswerKind::Played, &[code, played.unwrap_or(0) as u64]);
 }
 
 // The mode of a form's line is the field of the word.

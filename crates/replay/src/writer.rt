@@ -1,10 +1,13 @@
 // Writes lines to standard output, by way of a buffer.
-ghost use Rattle.std.specs.Prelude.{◌≡◌, ◌≤◌, length};
+ghost use Rattle.std.specs.Prelude.{◌≡◌, ◌+◌, ◌≤◌, length, min};
 
 use super::kinds::Kind;
 use stdio::Output;
 
 const ROOM: usize = 65536;
+
+// The most bytes that are put at once: a separator and 16 digits.
+const MOST_PUT: usize = 17;
 
 #[derive(Drop)]
 pub(crate) struct Writer<'a> {
@@ -35,38 +38,42 @@ impl<'a> Writer<'a> {
         self.filled = 0;
     }
 
-    fn put_byte(&mut self, byte: u8) {
-        if self.filled == ROOM {
+    // Sees to room for so many bytes, at most MOST_PUT.
+    fn make_room(&mut self, bytes: usize)
+        ensures { self.new.filled + min bytes MOST_PUT ≤ ROOM }
+    {
+        if ROOM - self.filled < bytes.min(MOST_PUT) {
             self.flush();
         }
-        self.buffer[self.filled] = byte;
-        self.filled += 1;
     }
 
-    fn put_bytes(&mut self, bytes: &[u8]) {
-        for byte in bytes {
-            self.put_byte(*byte);
-        }
+    // Puts the key of a line. None in the table is above MOST_PUT; without `min` that would have to be proved, and in `put_number` the like
+    // of a width.
+    fn put_key(&mut self, key: &[u8]) {
+        let key = &key[..key.len().min(MOST_PUT)];
+        self.make_room(key.len());
+        text::put_bytes(&mut self.buffer, self.filled, key);
+        self.filled += key.len();
     }
 
-    // Puts the last digits of a number. No width in the table is above 16; without `min` that would have to be proved.
-    fn put_hex(&mut self, width: usize, number: u64) {
-        let mut digits = [0u8; 16];
+    // Puts the last digits of a number, with its separator before it.
+    fn put_number(&mut self, separator: u8, width: usize, number: u64) {
         let width = width.min(16);
-        text::put_hex(&mut digits, 0, width, number);
-        self.put_bytes(&digits[..width]);
+        self.make_room(width + 1);
+        self.buffer[self.filled] = separator;
+        text::put_hex(&mut self.buffer, self.filled + 1, width, number);
+        self.filled += width + 1;
     }
 
     // Puts a line: the key and the numbers of a kind of line.
     pub(crate) fn put(&mut self, kind: impl Kind, numbers: &[u64]) {
         let shape = kind.shape();
-        self.put_bytes(shape.key);
+        self.put_key(shape.key);
         let mut separator = b'=';
         for (width, number) in shape.widths.iter().zip(numbers) {
-            self.put_byte(separator);
-            self.put_hex(*width, *number);
+            self.put_number(separator, *width, *number);
             separator = b' ';
         }
-        self.put_byte(b'\n');
+        self.put_key(b"\n");
     }
 }
