@@ -9,8 +9,9 @@ use mathlib.Core.Path.{◌≡◌, refl, ap, sym, ◌∙◌}
 use native.Mathlib.Omega.{arith}
 use lib.Dec.{eqb}
 use lib.ListN.{length, take, drop, length-take}
+use lib.Seq.{drop-cons}
 use Rattle.text.specs.Lines.{starts}
-use Rattle.assembly.specs.SourceLines.{bytes_of, first_line, in_front, lines_of}
+use Rattle.assembly.specs.SourceLines.{bytes_of, first_line, in_front, is_ended, lines_of}
 
 -- the first line feed, and the end where there is none
 
@@ -135,3 +136,19 @@ pub count_short : (s : List ℕ) → length (lines_of s) ≤ length s
 unfolding lines_of
 count_short [] = omega arith
 count_short (b ∷ s) = count_by b s (eqb b 10) (count_short s)
+
+-- an empty line is not ended, an ended one has a byte, and before a text's end a line begins that has one
+
+pub empty_unended : (line : List ℕ) → length line ≡ 0 → is_ended line ≡ false
+unfolding is_ended
+empty_unended [] h = refl
+empty_unended (b ∷ line) h = absurd (omega arith)
+
+pub ended_long : (line : List ℕ) → is_ended line ≡ true → 1 ≤ length line
+unfolding is_ended
+ended_long [] e = let z : ◌≡◌ {A = ℕ} 0 1 = cc in absurd (omega arith)
+ended_long (b ∷ line) e = omega arith
+
+pub first_some : (s : List ℕ) (at : ℕ) → at < length s → 1 ≤ length (first_line (drop at s))
+unfolding first_line
+first_some s at h = rw (drop-cons s at 0 h) (omega arith)

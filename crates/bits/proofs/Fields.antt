@@ -56,6 +56,10 @@ shift_or w low width v hw h hv =
     ∙ joined (w / 2 ^ k) v (w % 2 ^ low) low width hv (mod-lt w (pow_pos low))
     ∙ omega (arith, parts w low width)
 
+-- a field put in where there was none
+pub put_clear : (w low width v : ℕ) → bits_at w low width ≡ 0 → with_bits w low width v ≡ w + v * 2 ^ low
+put_clear w low width v e = ap (λ (f : ℕ). w - f * 2 ^ low + v * 2 ^ low) e ∙ omega arith
+
 -- fields and remainders as unknowns, so that a number is the sum of its fields by linear arithmetic
 
 unfoldable pub bits : ℕ → ℕ → ℕ → ℕ

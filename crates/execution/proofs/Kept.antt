@@ -1,5 +1,5 @@
 -- What a step keeps, and what a word that is taken comes to. Assumes nothing.
-use Rattle.std.proofs.Common.{◌≡◌, ◌≢◌, ℕ, Bool, true, false, cond, ◌↔◌, List, length, sym, refl, ap, ◌∙◌, subst, arith}
+use Rattle.std.proofs.Common.{◌≡◌, ◌≢◌, ℕ, Bool, true, false, cond, ◌↔◌, List, [], ◌∷◌, length, sym, refl, ap, ◌∙◌, subst, arith}
 use mathlib.Core.Bool.{and-eq-true_iff}
 use borrow.Author.Tests.{eqb-false}
 use Rattle.isa.specs.Decoding.{decode_of}
@@ -11,9 +11,9 @@ use Rattle.instructions.specs.WordOutcomes.{Outcome, word_outcome}
 use Rattle.instructions.proofs.WellFormed.{SameShape, word_sound, word_keeps}
 use Rattle.history.specs.Ring.{capacity, pushed}
 use Rattle.history.specs.Recording.{record_of}
-use Rattle.execution.specs.Calls.{Out, refused, done, Returned, returned, when_done, answered}
+use Rattle.execution.specs.Calls.{Out, refused, done, Returned, returned, when_done, answered, one_more, in_order}
 use Rattle.execution.specs.Simulation.{Simulation, well_formed}
-use Rattle.execution.specs.Steps.{step_of}
+use Rattle.execution.specs.Steps.{step_of, run_of}
 use Rattle.execution.proofs.Cursors.{placed, placed_ok, pushed_words, pushed_placed}
 
 -- well formed: a sound state, and a cursor that keeps its rule
@@ -86,3 +86,35 @@ module _ (s x : Simulation) (w : ℕ) where
 pub ill_formed : (s : Simulation) (w : ℕ) → well_formed s ≡ false → step_of s w ≡ refused Setup
 unfolding step_of word_outcome lowest
 ill_formed s w h = rw h
+
+-- the same code, and the same machine after it
+abbrev pub SameCall : Returned Simulation → Returned Simulation → Type 0
+SameCall l m = (l.answer.code ≡ m.answer.code) × (l.after ≡ m.after)
+
+-- a run of one word is its step, but for the count
+pub one_word : (s : Simulation) (w : ℕ) → SameCall (run_of s (w ∷ [])) (answered s (step_of s w))
+unfolding run_of in_order
+one_word s w = go (well_formed s) refl
+  where
+    first : (o : Out Simulation)
+        → SameCall (elim o [ refused code ↦ returned code 0 s | done after ↦ one_more (returned Done 0 after) ]) (answered s o)
+    first (refused code) = (refl, refl)
+    first (done after) = (refl, refl)
+
+    go : (t : Bool) → well_formed s ≡ t → SameCall (cond t (in_order step_of s (w ∷ [])) (returned Setup 0 s)) (answered s (step_of s w))
+    go true h = first (step_of s w)
+    go false h = rw (ill_formed s w h) (refl, refl)
+
+-- so a run of one word answers for the step
+pub one_step : (s : Simulation) (w : ℕ) (l : Returned Simulation) → l ≡ run_of s (w ∷ []) → returned l.answer.code 0 l.after ≡ answered s (step_of s w)
+one_step s w l e = go (answered s (step_of s w)) (uncounted (step_of s w)) (one_word s w)
+  where
+    uncounted : (o : Out Simulation) → (answered s o).answer.count ≡ 0
+    uncounted (refused code) = refl
+    uncounted (done after) = refl
+
+    go : (m : Returned Simulation) → m.answer.count ≡ 0 → SameCall (run_of s (w ∷ [])) m → returned l.answer.code 0 l.after ≡ m
+    go m z same =
+        let code = ap (λ (k : Returned Simulation). k.answer.code) e ∙ same.0 in
+        let after = ap (λ (k : Returned Simulation). k.after) e ∙ same.1 in
+        λ i. returned (code i) (sym z i) (after i)

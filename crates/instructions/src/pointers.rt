@@ -55,6 +55,7 @@ pub fn subtract(a: u64, b: u64) -> u64
 }
 
 // SUBPS: NZCV of the difference of two pointers. V is never set: the operands have 56 significant bits.
+#[tactic(auto, using(crate::proofs::Differences::no_overflow))]
 pub fn flags(a: u64, b: u64) -> u8
     ensures value { result ≡ difference_flags a b }
     ensures upper_bound { result < 16 }

@@ -1,12 +1,15 @@
 -- Lengths of what is written, and rows of the templates. Assumes nothing.
-use mathlib.Core.Path.{◌≡◌, ap, ◌∙◌}
+use mathlib.Core.Path.{◌≡◌, refl, ap, ◌∙◌}
 use mathlib.Core.Bool.{Bool, true, false, cond}
 use mathlib.Core.List.{List}
 use Prim.Native.Nat.{ℕ, ◌+◌, ◌≤◌, ◌<◌}
 use native.Mathlib.Omega.{arith}
 use lib.Dec.{eqb}
 use lib.ListN.{length, take, drop}
-use lib.Seq.{sets, sets-eq, take-append_seam}
+use lib.Seq.{sets, sets-eq, length-sets, take-append_seam}
+use Rattle.std.proofs.Common.{Option, Some, None}
+use Rattle.text.specs.Lines.{room_for}
+use Rattle.isa.specs.Decoding.{decode_of}
 use Rattle.isa.specs.declared.Mode.{Mode}
 use Rattle.isa.specs.declared.Mode.TheVariants.{Post, Pre, Offset}
 use Rattle.isa.specs.declared.AddSubOp.{AddSubOp}
@@ -20,7 +23,45 @@ use Rattle.isa.specs.declared.Form.TheVariants.{AddSub, TwoSource, Ldg, TagStore
 use Rattle.templates.specs.Templates.{template_at, filled}
 use Rattle.templates.specs.declared.Fields.{Fields}
 use Rattle.templates.proofs.Rows.{line_short as row-short}
+use Rattle.listing.specs.Codes.{UNDEFINED}
+use Rattle.listing.specs.Writing.{Written, written, put_at, listed_at}
 use Rattle.listing.specs.Lines.{add_sub_row, two_source_row, shown_row, tag_store_row, mode_row, row_of, fields_of, line_of}
+
+-- a listed word leaves the buffer's length, and has no code above 10
+
+by_test : (b : Bool) (x y : Written) (n : ℕ) → length x.bytes ≡ n → length y.bytes ≡ n → length (cond b x y).bytes ≡ n
+by_test true x y n e f = e
+by_test false x y n e f = f
+
+length_put : (l : List ℕ) (at : ℕ) (t : List ℕ) → length (put_at l at t).bytes ≡ length l
+unfolding put_at
+length_put l at t = by_test (room_for l at t) _ _ (length l) (length-sets l at t) refl
+
+by_decoded : (d : Option Form) (l : List ℕ) (at : ℕ)
+    → length (elim d as (λ _. Written) [ Some f ↦ put_at l at (line_of f) | None ↦ written l at UNDEFINED ]).bytes ≡ length l
+by_decoded (Some f) l at = length_put l at (line_of f)
+by_decoded None l at = refl
+
+pub length_listed : (l : List ℕ) (at word : ℕ) → length (listed_at l at word).bytes ≡ length l
+unfolding listed_at
+length_listed l at word = by_decoded (decode_of word) l at
+
+small_by_test : (b : Bool) (x y : Written) → x.code ≤ 10 → y.code ≤ 10 → (cond b x y).code ≤ 10
+small_by_test true x y h k = h
+small_by_test false x y h k = k
+
+small_put : (l : List ℕ) (at : ℕ) (t : List ℕ) → (put_at l at t).code ≤ 10
+unfolding put_at
+small_put l at t = small_by_test (room_for l at t) _ _ (omega arith) (omega arith)
+
+small_decoded : (d : Option Form) (l : List ℕ) (at : ℕ)
+    → (elim d as (λ _. Written) [ Some f ↦ put_at l at (line_of f) | None ↦ written l at UNDEFINED ]).code ≤ 10
+small_decoded (Some f) l at = small_put l at (line_of f)
+small_decoded None l at = omega arith
+
+pub code_small : (l : List ℕ) (at word : ℕ) → (listed_at l at word).code ≤ 10
+unfolding listed_at
+code_small l at word = small_decoded (decode_of word) l at
 
 -- a text that was put at the start is there
 pub take_put : (l t : List ℕ) → length t ≤ length l → take (length t) (sets l 0 t) ≡ t

@@ -2,7 +2,7 @@
 use Prim.Native.Nat.{ℕ, suc, ◌+◌, ◌≤◌, ◌<◌}
 use mathlib.Core.Bool.{true}
 use mathlib.Core.List.{List, [], ◌∷◌}
-use mathlib.Core.Path.{◌≡◌, sym, ap, ◌∙◌}
+use mathlib.Core.Path.{◌≡◌, refl, sym, ap, ◌∙◌}
 use native.Mathlib.Nat.{add-suc, suc-add, add-zero, zero-add}
 use native.Mathlib.Numerals.{add-one}
 use lib.ListN.{length, drop, get_or, drop_of_length-le}
@@ -12,7 +12,7 @@ use Rattle.machine.specs.declared.Code.TheVariants.{Done}
 use Rattle.execution.specs.Calls.{Out, Returned, returned, refused, done, in_order}
 use Rattle.execution.specs.Simulation.{Simulation, well_formed}
 use Rattle.execution.specs.Steps.{step_of}
-use Rattle.execution.proofs.Kept.{step_keeps}
+use Rattle.execution.proofs.Kept.{Kept, step_kept}
 
 -- a run, where n words were done before
 
@@ -39,10 +39,13 @@ module _ (words : List ℕ) (start : Simulation) where
   -- before the word at i, with i words done: what is left of the run is the run
   pub record Reached (i : ℕ) (s : Simulation) : Type 0 where
     pub formed : well_formed s ≡ true
+    pub bytes : length s.state.bytes ≡ length start.state.bytes
+    pub tags : length s.state.tags ≡ length start.state.tags
+    pub history : length s.history.words ≡ length start.history.words
     pub rest : plus i (in_order step_of s (drop i words)) ≡ in_order step_of start words
 
   pub at_start : well_formed start ≡ true → Reached 0 start
-  at_start h = record { formed = h; rest = plus_zero (in_order step_of start words) }
+  at_start h = record { formed = h; bytes = refl; tags = refl; history = refl; rest = plus_zero (in_order step_of start words) }
 
   module _ (i : ℕ) (s : Simulation) (reached : Reached i s) where
     pub at_end : length words ≤ i → returned Done i s ≡ in_order step_of start words
@@ -60,7 +63,11 @@ module _ (words : List ℕ) (start : Simulation) where
 
       pub one_on : (after : Simulation) → step_of s (get_or words i 0) ≡ done after → Reached (i + 1) after
       one_on after e =
+          let k : Kept after s = step_kept s after (get_or words i 0) reached.formed e in
           record {
-            formed = step_keeps s after (get_or words i 0) reached.formed e;
+            formed = k.formed;
+            bytes = k.shape.bytes ∙ reached.bytes;
+            tags = k.shape.tags ∙ reached.tags;
+            history = k.words ∙ reached.history;
             rest = rw add-one (sym (run_more step_of i s after (get_or words i 0) (drop (suc i) words) e) ∙ front);
           }

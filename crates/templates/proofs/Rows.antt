@@ -1,12 +1,12 @@
 -- Rules of every row of the templates, each proved by one test that antt computes over all of them. Assumes nothing.
-use mathlib.Core.Path.{◌≡◌, refl, sym, subst}
+use mathlib.Core.Path.{◌≡◌, refl, sym, ap, ◌∙◌, subst}
 use mathlib.Core.Bool.{Bool, true, false, cond}
 use mathlib.Core.List.{List, [], ◌∷◌}
 use Prim.Native.Nat.{ℕ, zero, suc, ◌+◌, ◌≤◌, ◌<◌}
 use native.Mathlib.Nat.{le_of_suc-le-suc, not-suc-le-zero}
 use native.Mathlib.Omega.{arith}
-use borrow.Author.Tests.{leb-true}
-use lib.Dec.{leb}
+use borrow.Author.Tests.{eq-eqb, leb-true}
+use lib.Dec.{eqb, leb}
 use lib.ListN.{length, get_or, length-append}
 use Rattle.templates.specs.Templates.{templates, template_at, piece_of, text_as, filled}
 use Rattle.templates.specs.declared.Fields.{Fields}
@@ -76,3 +76,25 @@ all_fit = refl
 
 pub fits : (row : ℕ) → row < 28 → length (template_at row) ≤ 24
 fits row h = leb-true (length (template_at row)) 24 (at_template (λ (t : List ℕ). leb (length t) 24) all_fit row h)
+
+-- no template has a zero
+
+abbrev no_zero : List ℕ → Bool
+no_zero [] = true
+no_zero (b ∷ t) = cond (eqb b 0) false (no_zero t)
+
+all_no_zero : all_rows no_zero templates ≡ true
+unfolding templates
+all_no_zero = refl
+
+zero_behind : (t : List ℕ) (i : ℕ) → no_zero t ≡ true → get_or t i 0 ≡ 0 → length t ≤ i
+zero_behind [] i e z = omega arith
+zero_behind (b ∷ t) zero e z = absurd (true_not (sym e ∙ ap (λ (x : Bool). cond x false (no_zero t)) (eq-eqb b 0 z)))
+zero_behind (b ∷ t) (suc i) e z = omega (arith, zero_behind t i (tail (eqb b 0) e) z)
+  where
+    tail : (x : Bool) → cond x false (no_zero t) ≡ true → no_zero t ≡ true
+    tail true k = absurd (true_not (sym k))
+    tail false k = k
+
+pub ended : (row i : ℕ) → row < 28 → get_or (template_at row) i 0 ≡ 0 → length (template_at row) ≤ i
+ended row i h z = zero_behind (template_at row) i (at_template no_zero all_no_zero row h) z
