@@ -5,7 +5,7 @@ ghost use Rattle.std.specs.Prelude.{◌≡◌, Ok};
 ghost use Rattle.listing.specs.Codes.{list_code, list_error_code, read_error_code};
 ghost use Rattle.listing.specs.Inside.Method.{read_form};
 ghost use Rattle.listing.specs.Lines.{line_of};
-ghost use Rattle.listing.specs.Reading.{same_text, read_of};
+ghost use Rattle.listing.specs.Reading.{read_of};
 ghost use Rattle.listing.specs.Writing.{written, left, so_far, put_at, listed_at, listed_words};
 
 use isa::Form;

@@ -1,13 +1,12 @@
 -- A turn of each reading loop, on lists: what is left to read, one byte on. Assumes nothing.
-use mathlib.Core.Path.{◌≡◌, refl, sym, ap, ◌∙◌}
-use Rattle.std.proofs.lemmas.Slice.{between_to_end}
+use mathlib.Core.Path.{◌≡◌, refl, ap, ◌∙◌}
 use mathlib.Core.Bool.{Bool, true, false, cond, ◌&&◌}
 use mathlib.Core.List.{List, [], ◌∷◌}
 use Prim.Native.Nat.{ℕ, suc, ◌+◌, ◌-◌, ◌*◌, ◌^◌, ◌≤◌, ◌<◌}
 use native.Mathlib.Nat.{pow-suc, pow-le-pow_right}
 use native.Mathlib.Numerals.{add-one}
 use native.Mathlib.Omega.{arith}
-use lib.ListN.{length, get_or, take, drop}
+use lib.ListN.{length, get_or, drop}
 use lib.Seq.{drop-cons}
 use lib.Dec.{eqb}
 use borrow.Author.Tests.{eq-eqb, ne_eqb}
@@ -69,6 +68,3 @@ unfolding starts
 starts_same [] l = refl
 starts_same (k ∷ key) [] = refl
 starts_same (k ∷ key) (b ∷ l) = ap (λ (t : Bool). cond (eqb k b) t false) (starts_same key l) ∙ and_as_cond (eqb k b) (starts_with eqb l key)
-
-pub starts_from : (key s : List ℕ) (at : ℕ) → starts key (drop at s) ≡ starts_with eqb (take (length s - at) (drop at s)) key
-starts_from key s at = ap (starts key) (sym (between_to_end s at (length s) (omega arith))) ∙ starts_same key (take (length s - at) (drop at s))

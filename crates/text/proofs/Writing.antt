@@ -1,14 +1,12 @@
 -- A turn of each writing loop, on lists, bytes from the front and digits from the back; a line as one run of stores. Assumes nothing.
 use mathlib.Core.Path.{◌≡◌, refl, ap, sym, ◌∙◌}
-use mathlib.Core.List.{List, [], ◌∷◌, ◌++◌, append_assoc}
-use Prim.Native.Nat.{ℕ, zero, suc, ◌+◌, ◌/◌, ◌%◌, ◌<◌, ◌≤◌}
+use mathlib.Core.List.{List, [], ◌∷◌, ◌++◌}
+use Prim.Native.Nat.{ℕ, zero, suc, ◌+◌, ◌/◌, ◌%◌, ◌<◌}
 use native.Mathlib.Nat.{add-zero, add-suc, suc-add}
 use native.Mathlib.Numerals.{add-one}
 use native.Mathlib.Omega.{arith}
 use lib.ListN.{length, get_or, set, drop, length-append, length-map}
-use borrow.Rule.Slice.PartMut.{put_mid}
-use Rattle.std.proofs.lemmas.List.Edits.{sets-eq}
-use lib.Seq.{drop-drop, sets, set_comm, drop-cons}
+use lib.Seq.{sets, set_comm, drop-cons}
 use Rattle.text.specs.Hex.{digit_of, hex_digits, digits_text}
 use Rattle.text.specs.Lines.{line_text, digits_line}
 
@@ -39,10 +37,6 @@ digits_turn l at i rest g e =
     rw e
     (sym (ap (λ (k : ℕ). sets (set l (at + k) (digit_of (rest % 16))) at (hex_digits i (rest / 16))) (sym (length_digits i (rest / 16)))
     ∙ sets_last l at (hex_digits i (rest / 16)) (digit_of (rest % 16))))
-
--- bytes copied over a part of a list
-pub bytes_put : (l : List ℕ) (at n : ℕ) (t u : List ℕ) → u ≡ t → n ≡ length t → at + length t ≤ length l → put_mid at n l u ≡ sets l at t
-bytes_put l at n t u e long room = rw (e, long, drop-drop, ← append_assoc) (sym (sets-eq t l at room))
 
 pub bytes_turn : (l : List ℕ) (at : ℕ) (t : List ℕ) (i : ℕ) → i < length t
     → sets l (at + i) (drop i t) ≡ sets (set l (at + i) (get_or t i 0)) (at + (i + 1)) (drop (i + 1) t)
