@@ -30,7 +30,7 @@ fn front(player: &Player<'_>) -> [(SettingKind, u64); 11] {
 // How many items are looked at together. Mostly they are all zero.
 const ROW: usize = 64;
 
-// Puts a line of a kind for each item that is not zero, from the row of that number on.
+// Puts a line of a kind for each item of a row that is not zero. Rows are numbered from 0.
 fn put_row<T: Copy>(writer: &mut Writer<'_>, kind: SettingKind, row: usize, items: &[T])
 where
     u64: From<T>,

@@ -47,13 +47,13 @@ impl<'a> Writer<'a> {
         }
     }
 
-    // Puts the key of a line. None in the table is above MOST_PUT; without `min` that would have to be proved, and in `put_number` the like
-    // of a width.
-    fn put_key(&mut self, key: &[u8]) {
-        let key = &key[..key.len().min(MOST_PUT)];
-        self.make_room(key.len());
-        text::put_bytes(&mut self.buffer, self.filled, key);
-        self.filled += key.len();
+    // Puts a key or a line feed. No key in the table is longer than MOST_PUT; without `min` that would have to be proved, and in
+    // `put_number` the like of a width.
+    fn put_text(&mut self, bytes: &[u8]) {
+        let bytes = &bytes[..bytes.len().min(MOST_PUT)];
+        self.make_room(bytes.len());
+        text::put_bytes(&mut self.buffer, self.filled, bytes);
+        self.filled += bytes.len();
     }
 
     // Puts the last digits of a number, with its separator before it.
@@ -68,12 +68,12 @@ impl<'a> Writer<'a> {
     // Puts a line: the key and the numbers of a kind of line.
     pub(crate) fn put(&mut self, kind: impl Kind, numbers: &[u64]) {
         let shape = kind.shape();
-        self.put_key(shape.key);
+        self.put_text(shape.key);
         let mut separator = b'=';
         for (width, number) in shape.widths.iter().zip(numbers) {
             self.put_number(separator, *width, *number);
             separator = b' ';
         }
-        self.put_key(b"\n");
+        self.put_text(b"\n");
     }
 }
